@@ -96,10 +96,10 @@ module _ {spares : List ℕ} {rows : List ObjectRow} {count at : ℕ} (p : Passe
               let t : take (at + 1) rows ≡ take at rows ++ (getD rows at noRow ∷ []) = rw (add-one, take-suc rows at noRow (omega arith)) in
               record { long = p .long; upTo = omega arith; state = rw t (simp (eq-eqb (getD spares at 0) 0 z, c, v, e) at (here h)) }
 
--- no spare field and spare fields of zero are the same
-pub no-spares : (spares : List ℕ) (at : ℕ) (seen rows : List ObjectRow) → ((k : ℕ) → getD spares k 0 ≡ 0) → checksFrom spares at seen rows ≡ checksFrom [] at seen rows
-no-spares spares at seen [] z = refl
-no-spares spares at seen (r ∷ rs) z = rw (eq-eqb (getD spares at 0) 0 (z at), no-spares spares (at + 1) (seen ++ r ∷ []) rs z)
+-- only the spare field at each place counts
+pub same-spares : (xs ys : List ℕ) (at : ℕ) (seen rows : List ObjectRow) → ((k : ℕ) → getD xs k 0 ≡ getD ys k 0) → checksFrom xs at seen rows ≡ checksFrom ys at seen rows
+same-spares xs ys at seen [] z = refl
+same-spares xs ys at seen (r ∷ rs) z = rw (z at, same-spares xs ys (at + 1) (seen ++ r ∷ []) rs z)
 
 pub zeros : (n k : ℕ) → _≡_ {A = ℕ} (getD (replicate n 0) k 0) 0
 zeros zero k = refl

@@ -1,0 +1,28 @@
+-- `tables::records_count` meets its contract. Assumes nothing.
+use native.Mathlib.Omega.{arith}
+use Rattle.tables.proofs.Trailer.{readable}
+use borrow.Author.Needs.{needs}
+use Rattle.tables.proofs.records_count.Statement.{statement}
+use Rattle.tables.proofs.records_count.Tie as tie
+use Rattle.tables.proofs.records_count.Reads as reads
+use Rattle.tables.proofs.records_count.Lts as lts
+use Rattle.tables.proofs.read16.Reads as read16-reads
+
+-- src/lib.rt:79:19
+sub-read16 : tie.Need-sub-read16
+sub-read16 c = let r = readable (c .before .args .bytes .now) (c .before .pre) in omega arith
+
+-- src/lib.rt:79:5
+read16-requires : tie.Need-read16-requires
+read16-requires c κs = let r = readable (c .before .args .bytes .now) (c .before .pre) in omega arith
+
+-- src/lib.rt:79:5
+cast-result : tie.Need-cast-result
+cast-result c = search needs
+
+-- src/lib.rt:75:1
+returns : tie.Need-returns
+returns c = search needs
+
+pub records-count-spec : {M : Type 1} → statement M
+records-count-spec = tie.close (tie.spec sub-read16 read16-requires cast-result returns)

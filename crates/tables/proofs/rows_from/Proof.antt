@@ -1,0 +1,83 @@
+-- `tables::rows_from` meets its contract: after n turns the first n records are in. Assumes nothing.
+use Prim.Native.Nat.{ℕ, _+_, _-_, _*_, _≤_}
+use mathlib.Core.Path.{_≡_, refl}
+use mathlib.Core.List.{_++_}
+use native.Mathlib.Omega.{arith}
+use borrow.Author.Needs.{needs}
+use lib.ListN.{replicate}
+use Rattle.rules.specs.StoredTable.{noRow, rowOf, recordsOf}
+use Rattle.tables.proofs.Filling.{fill-next}
+use Rattle.tables.proofs.rows_from.Statement.{statement}
+use Rattle.tables.proofs.rows_from.Tie as tie
+use Rattle.tables.proofs.rows_from.Reads as reads
+use Rattle.tables.proofs.rows_from.Lts as lts
+use Rattle.tables.proofs.row_at.Reads as row-at-reads
+
+abbrev Inv-loop : tie.InvT-loop
+Inv-loop bytes start count rows₀ n₀ rows n = (n ≤ count) × (rows ≡ recordsOf rowOf bytes start n ++ replicate (64 - n) noRow)
+
+abbrev μ-loop : tie.MeasureT-loop
+μ-loop bytes start count rows₀ n₀ rows n = count - n
+
+-- src/lib.rt:98:5
+loop-holds : tie.Need-loop-holds Inv-loop μ-loop
+loop-holds c = (search needs, refl)
+
+-- src/lib.rt:99:41
+mul-row-at : tie.Need-mul-row-at Inv-loop μ-loop
+mul-row-at c = search needs
+
+-- src/lib.rt:99:33
+add-row-at : tie.Need-add-row-at Inv-loop μ-loop
+add-row-at c = search needs
+
+-- src/lib.rt:99:19
+row-at-requires : tie.Need-row-at-requires Inv-loop μ-loop
+row-at-requires c κs = search needs
+
+-- src/lib.rt:99:9
+mul-rows : tie.Need-mul-rows Inv-loop μ-loop
+mul-rows c = search needs
+
+-- src/lib.rt:99:9
+array-set-from-rows : tie.Need-array-set-from-rows Inv-loop μ-loop
+array-set-from-rows c = search needs
+
+-- src/lib.rt:100:9
+add-n : tie.Need-add-n Inv-loop μ-loop
+add-n c = search needs
+
+-- src/lib.rt:98:5
+loop-less : tie.Need-loop-less Inv-loop μ-loop
+loop-less c = search needs
+
+-- src/lib.rt:98:5
+loop-again : tie.Need-loop-again Inv-loop μ-loop
+loop-again c =
+    let l = c .before .before in
+    let a = l .before .before .args in
+    (search needs, rw (c .row-at .ensures, l .loop .inv .1) (fill-next rowOf noRow (a .bytes .now) (a .start) (l .loop .n) (search needs)))
+
+-- src/lib.rt:87:1
+returns : tie.Need-returns Inv-loop μ-loop
+returns c =
+    let l = c .before in
+    let e : l .loop .n ≡ l .before .before .args .count = omega arith in
+    rw e at (l .loop .inv .1)
+
+pub rows-from-spec : {M : Type 1} → statement M
+rows-from-spec =
+    tie.close
+    (tie.spec
+    Inv-loop
+    μ-loop
+    loop-holds
+    mul-row-at
+    add-row-at
+    row-at-requires
+    mul-rows
+    array-set-from-rows
+    add-n
+    loop-less
+    loop-again
+    returns)

@@ -1,0 +1,88 @@
+-- `tables::spares_from` meets its contract: after n turns the first n records are in. Assumes nothing.
+use Prim.Native.Nat.{ℕ, _+_, _-_, _*_, _≤_}
+use mathlib.Core.Path.{_≡_, refl}
+use mathlib.Core.List.{_++_}
+use native.Mathlib.Omega.{arith}
+use borrow.Author.Needs.{needs}
+use lib.ListN.{replicate}
+use Rattle.rules.specs.StoredTable.{spareOf, recordsOf}
+use Rattle.tables.proofs.Filling.{fill-next}
+use Rattle.tables.proofs.spares_from.Statement.{statement}
+use Rattle.tables.proofs.spares_from.Tie as tie
+use Rattle.tables.proofs.spares_from.Reads as reads
+use Rattle.tables.proofs.spares_from.Lts as lts
+use Rattle.tables.proofs.read16.Reads as read16-reads
+
+abbrev Inv-loop : tie.InvT-loop
+Inv-loop bytes start count spares₀ n₀ spares n = (n ≤ count) × (spares ≡ recordsOf spareOf bytes start n ++ replicate (64 - n) 0)
+
+abbrev μ-loop : tie.MeasureT-loop
+μ-loop bytes start count spares₀ n₀ spares n = count - n
+
+-- src/lib.rt:112:5
+loop-holds : tie.Need-loop-holds Inv-loop μ-loop
+loop-holds c = (search needs, refl)
+
+-- src/lib.rt:113:43
+mul-read16 : tie.Need-mul-read16 Inv-loop μ-loop
+mul-read16 c = search needs
+
+-- src/lib.rt:113:35
+add-read16 : tie.Need-add-read16 Inv-loop μ-loop
+add-read16 c = search needs
+
+-- src/lib.rt:113:35
+add-read16-2 : tie.Need-add-read16-2 Inv-loop μ-loop
+add-read16-2 c = search needs
+
+-- src/lib.rt:113:21
+read16-requires : tie.Need-read16-requires Inv-loop μ-loop
+read16-requires c κs = search needs
+
+-- src/lib.rt:113:9
+mul-spares : tie.Need-mul-spares Inv-loop μ-loop
+mul-spares c = search needs
+
+-- src/lib.rt:113:9
+array-write-spares : tie.Need-array-write-spares Inv-loop μ-loop
+array-write-spares c = search needs
+
+-- src/lib.rt:114:9
+add-n : tie.Need-add-n Inv-loop μ-loop
+add-n c = search needs
+
+-- src/lib.rt:112:5
+loop-less : tie.Need-loop-less Inv-loop μ-loop
+loop-less c = search needs
+
+-- src/lib.rt:112:5
+loop-again : tie.Need-loop-again Inv-loop μ-loop
+loop-again c =
+    let l = c .before .before in
+    let a = l .before .before .args in
+    (search needs, rw (c .read16 .ensures, l .loop .inv .1) (fill-next spareOf 0 (a .bytes .now) (a .start) (l .loop .n) (search needs)))
+
+-- src/lib.rt:106:1
+returns : tie.Need-returns Inv-loop μ-loop
+returns c =
+    let l = c .before in
+    let e : l .loop .n ≡ l .before .before .args .count = omega arith in
+    rw e at (l .loop .inv .1)
+
+pub spares-from-spec : {M : Type 1} → statement M
+spares-from-spec =
+    tie.close
+    (tie.spec
+    Inv-loop
+    μ-loop
+    loop-holds
+    mul-read16
+    add-read16
+    add-read16-2
+    read16-requires
+    mul-spares
+    array-write-spares
+    add-n
+    loop-less
+    loop-again
+    returns)

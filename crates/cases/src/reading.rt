@@ -1,32 +1,19 @@
 // Document 01's numbers for the stored table and the choice.
-use libc::STDOUT_FILENO;
 use rules::Verdict;
-
-// "accepted", or "refused N at K".
-pub fn print_verdict(verdict: Verdict) {
-    match verdict {
-        Verdict::Accepted => {
-            io::write_all(STDOUT_FILENO, b"accepted");
-        }
-        Verdict::Refused(refusal, place) => {
-            io::write_all(STDOUT_FILENO, b"refused ");
-            io::print_decimal(STDOUT_FILENO, rules::refusal_number(refusal) as u64);
-            io::write_all(STDOUT_FILENO, b" at ");
-            io::print_decimal(STDOUT_FILENO, place as u64);
-        }
-    }
-}
 
 // One stored table: what it is, the verdict, and how many rows came back.
 fn read_case(name: &[u8], bytes: &[u8]) {
-    io::write_all(STDOUT_FILENO, name);
-    io::write_all(STDOUT_FILENO, b": ");
+    printing::text(name);
+    printing::text(b": ");
     let answer = tables::read(bytes);
     let verdict = answer.verdict;
-    print_verdict(verdict);
-    io::write_all(STDOUT_FILENO, b", rows ");
-    io::print_decimal(STDOUT_FILENO, answer.table.count as u64);
-    io::write_all(STDOUT_FILENO, b"\n");
+    match verdict {
+        Verdict::Accepted => printing::text(b"accepted"),
+        Verdict::Refused(refusal, place) => printing::refused(refusal, place),
+    }
+    printing::text(b", rows ");
+    printing::number(answer.table.count as u64);
+    printing::text(b"\n");
 }
 
 // A byte as a wider number.
@@ -36,16 +23,16 @@ fn wide(x: u8) -> u64 {
 
 // One choice: how many bytes it holds, and the first of them.
 fn choice_case<'a>(name: &[u8], site: &'a [u8], factory: &'a [u8]) {
-    io::write_all(STDOUT_FILENO, name);
-    io::write_all(STDOUT_FILENO, b": ");
+    printing::text(name);
+    printing::text(b": ");
     let part = tables::choose(site, factory);
-    io::print_decimal(STDOUT_FILENO, part.len() as u64);
-    io::write_all(STDOUT_FILENO, b" bytes");
+    printing::number(part.len() as u64);
+    printing::text(b" bytes");
     if 0 < part.len() {
-        io::write_all(STDOUT_FILENO, b" from ");
-        io::print_decimal(STDOUT_FILENO, wide(part[0]));
+        printing::text(b" from ");
+        printing::number(wide(part[0]));
     }
-    io::write_all(STDOUT_FILENO, b"\n");
+    printing::text(b"\n");
 }
 
 // The trailer: checks 1 to 5.

@@ -1,1 +1,4 @@
+pub mod Balance
 pub mod Checks
+pub mod Lists
+pub mod Places

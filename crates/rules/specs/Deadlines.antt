@@ -5,7 +5,7 @@ use mathlib.Core.Bool.{Bool, cond}
 use mathlib.Core.List.{List, [], _∷_, _++_}
 use mathlib.Core.Option.{Option, none, some}
 use lib.Dec.{eqb}
-use lib.ListN.{length, replicate}
+use lib.ListN.{length, take, replicate}
 use Rattle.rules.specs.declared.ObjectRow.{ObjectRow}
 use Rattle.rules.specs.declared.PlanRow.{PlanRow}
 use Rattle.rules.specs.declared.Plan.{Plan}
@@ -61,6 +61,10 @@ refusedPlan r k = record { verdict = Refused r k; plan = noPlan }
 -- an accepted plan: "Rows beyond the count are zero or none"
 abbrev pub acceptedPlan : List PlanRow → Planned
 acceptedPlan rows = record { verdict = Accepted; plan = record { count = length rows; rows = rows ++ replicate (64 - length rows) noPlanRow } }
+
+-- the rows of a plan in use
+abbrev pub plannedRows : Plan → List PlanRow
+plannedRows plan = take (plan .count) (plan .rows)
 
 -- going on with a deadline, or without one
 abbrev pub withDeadline : {A : Type 0} → Option ℕ → (ℕ → A) → A → A

@@ -1,20 +1,19 @@
 -- What the trailer's checks say, one by one, and what is known of bytes that pass them. Assumes nothing.
 use Prim.Native.Nat.{ℕ, _+_, _-_, _*_, _≤_, _<_}
-use mathlib.Core.Path.{_≡_, refl, sym, ap, _∙_}
-use mathlib.Core.Bool.{Bool, true, false, cond}
+use mathlib.Core.Path.{_≡_, refl, _∙_}
+use mathlib.Core.Bool.{true}
 use mathlib.Core.List.{List}
 use native.Mathlib.Omega.{arith}
 use borrow.Author.Tests.{lt-ltb, le-ltb, ltb-false, eq-eqb, ne-eqb}
 use lib.Dec.{eqb, ltb}
 use lib.ListN.{length}
 use Rattle.rules.specs.declared.Table.{Table}
-use Rattle.rules.specs.declared.Refusal.{Refusal}
 use Rattle.rules.specs.declared.Refusal.the-variants.{TooShort, TooLong, WrongMark, CountRange, DistanceRange}
 use Rattle.rules.specs.declared.Verdict.{Verdict}
 use Rattle.rules.specs.declared.Verdict.the-variants.{Accepted, Refused}
 use Rattle.rules.specs.Refusals.{firstRefusal}
 use Rattle.rules.specs.StoredTable.{distanceOf, countOf, markOf, tableMark, countVerdict, distanceVerdict, trailerVerdict, answer, accepts, readVerdict}
-use Rattle.rules.proofs.Checks.{count-in, count-few, count-many}
+use Rattle.rules.proofs.Checks.{count-in, count-few, count-many, count-said, both-accept, test-passed, not-met}
 
 module _ (s : List ℕ) where
   pub too-short : length s < 8 → trailerVerdict s ≡ Refused TooShort 0
@@ -60,34 +59,19 @@ pub record Readable (s : List ℕ) : Type 0 where
   pub room : 8 + 12 * countOf s ≤ distanceOf s
   pub within : distanceOf s ≤ length s
 
--- a test that passed by not refusing, and by not falling to the refusal
-not-refused : (t : Bool) (r : Refusal) (v : Verdict) → cond t (Refused r 0) v ≡ Accepted → (t ≡ false) × (v ≡ Accepted)
-not-refused true r v e = let z : _≡_ {A = ℕ} 0 1 = cc in absurd (omega arith)
-not-refused false r v e = (refl, e)
-
-not-left : (t : Bool) (r : Refusal) (v : Verdict) → cond t v (Refused r 0) ≡ Accepted → v ≡ Accepted
-not-left true r v e = e
-not-left false r v e = let z : _≡_ {A = ℕ} 0 1 = cc in absurd (omega arith)
-
--- the first of two verdicts is no refusal where both together are none, and so is the second
-pub both-accept : (v w : Verdict) → firstRefusal v w ≡ Accepted → (v ≡ Accepted) × (w ≡ Accepted)
-both-accept Accepted w e = (refl, e)
-both-accept (Refused r k) w e = let z : _≡_ {A = ℕ} 0 1 = cc in absurd (omega arith)
-
 pub readable : (s : List ℕ) → trailerVerdict s ≡ Accepted → Readable s
 readable s e =
-    let e1 = not-refused (ltb (length s) 8) TooShort _ e in
-    let e2 = not-refused (ltb 4096 (length s)) TooLong _ (e1 .1) in
-    let e3 = not-left (eqb (markOf s) tableMark) WrongMark _ (e2 .1) in
-    let e4 = both-accept (countVerdict (countOf s)) (distanceVerdict s) e3 in
-    let e5 = not-refused (ltb (countOf s) 1) CountRange _ (e4 .0) in
-    let e6 = not-refused (ltb 64 (countOf s)) CountRange _ (e5 .1) in
-    let e7 = not-refused (ltb (distanceOf s) (8 + 12 * countOf s)) DistanceRange _ (e4 .1) in
-    let e8 = not-refused (ltb (length s) (distanceOf s)) DistanceRange _ (e7 .1) in
+    let e1 = not-met (ltb (length s) 8) TooShort 0 _ e in
+    let e2 = not-met (ltb 4096 (length s)) TooLong 0 _ (e1 .1) in
+    let e3 = test-passed (eqb (markOf s) tableMark) WrongMark 0 _ (e2 .1) in
+    let e4 = both-accept (countVerdict (countOf s)) (distanceVerdict s) (e3 .1) in
+    let n = count-said (countOf s) (e4 .0) in
+    let e7 = not-met (ltb (distanceOf s) (8 + 12 * countOf s)) DistanceRange 0 _ (e4 .1) in
+    let e8 = not-met (ltb (length s) (distanceOf s)) DistanceRange 0 _ (e7 .1) in
     record {
       long = ltb-false (length s) 8 (e1 .0);
-      some = ltb-false (countOf s) 1 (e5 .0);
-      few = ltb-false 64 (countOf s) (e6 .0);
+      some = n .0;
+      few = n .1;
       room = ltb-false (distanceOf s) (8 + 12 * countOf s) (e7 .0);
       within = ltb-false (length s) (distanceOf s) (e8 .0);
     }

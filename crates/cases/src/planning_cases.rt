@@ -1,0 +1,111 @@
+// Document 01's numbers for the planner, those that are run and not proved among them.
+use rules::ObjectRow;
+use rules::Plan;
+use rules::Table;
+use rules::Verdict;
+
+// An object row of (cost, validity), with an id.
+fn row(id: u16, cost: u32, validity: u32) -> ObjectRow {
+    ObjectRow { id, cost, validity }
+}
+
+// A table of the first `count` of three rows.
+fn table(count: usize, first: ObjectRow, second: ObjectRow, third: ObjectRow) -> Table {
+    let none = row(0, 0, 0);
+    let mut rows = [none; 64];
+    rows[0] = first;
+    rows[1] = second;
+    rows[2] = third;
+    Table { count, rows }
+}
+
+// " id (deadline,period)" of each object in priority order.
+fn print_rows(plan: Plan) {
+    for i in 0..64usize {
+        if i < plan.count {
+            let one = plan.rows[i];
+            printing::text(b" ");
+            printing::number(one.id as u64);
+            printing::text(b" (");
+            printing::number(one.deadline as u64);
+            printing::text(b",");
+            printing::number(one.period as u64);
+            printing::text(b")");
+        }
+    }
+}
+
+// One table: what it is, and its plan or the refusal.
+fn plan_case(name: &[u8], table: Table) {
+    printing::text(name);
+    printing::text(b":");
+    let planned = planning::plan_table(table);
+    let verdict = planned.verdict;
+    match verdict {
+        Verdict::Accepted => {
+            let plan = planned.plan;
+            print_rows(plan);
+        }
+        Verdict::Refused(refusal, place) => {
+            printing::text(b" ");
+            printing::refused(refusal, place);
+        }
+    }
+    printing::text(b"\n");
+}
+
+// One or two objects, ids 1 and 2.
+fn one(name: &[u8], cost: u32, validity: u32) {
+    let unread = row(9, 0, 0);
+    plan_case(name, table(1, row(1, cost, validity), unread, unread));
+}
+
+fn two(name: &[u8], cost: u32, validity: u32, other_cost: u32, other_validity: u32) {
+    let unread = row(9, 0, 0);
+    plan_case(
+        name,
+        table(
+            2,
+            row(1, cost, validity),
+            row(2, other_cost, other_validity),
+            unread,
+        ),
+    );
+}
+
+pub fn cases() {
+    two(b"(1,3), (2,20)", 1, 3, 2, 20);
+    plan_case(
+        b"(1,8), (1,10), (1,12)",
+        table(3, row(1, 1, 8), row(2, 1, 10), row(3, 1, 12)),
+    );
+    plan_case(
+        b"(2,8), (2,10), (2,12)",
+        table(3, row(1, 2, 8), row(2, 2, 10), row(3, 2, 12)),
+    );
+    plan_case(
+        b"(2,8), (2,10), (2,11)",
+        table(3, row(1, 2, 8), row(2, 2, 10), row(3, 2, 11)),
+    );
+    one(b"(1,2)", 1, 2);
+    two(b"(1,2), (1,1000000)", 1, 2, 1, 1000000);
+    one(b"(500000,1000000)", 500000, 1000000);
+    one(b"(500001,1000000)", 500001, 1000000);
+    two(b"(1,3), (1,4)", 1, 3, 1, 4);
+    two(b"(1,3), (1,3)", 1, 3, 1, 3);
+    two(b"id 1 (1,10), id 2 (3,10)", 1, 10, 3, 10);
+    one(b"cost 0", 0, 10);
+    one(b"validity 1000001", 1, 1000001);
+    plan_case(
+        b"count 0",
+        table(0, row(1, 1, 10), row(2, 1, 10), row(3, 1, 10)),
+    );
+    plan_case(
+        b"count 65",
+        table(65, row(1, 1, 10), row(2, 1, 10), row(3, 1, 10)),
+    );
+    plan_case(
+        b"equal ids in the first and the third row",
+        table(3, row(1, 1, 10), row(2, 1, 10), row(1, 1, 10)),
+    );
+}

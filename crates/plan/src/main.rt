@@ -1,0 +1,66 @@
+// The plan program: reads a stored table from standard input and prints its plan, or "refused N at K".
+use libc::STDIN_FILENO;
+use rules::Plan;
+use rules::PlanRow;
+use rules::Verdict;
+
+// One object: id, cost, validity, deadline, period.
+fn print_row(row: PlanRow) {
+    printing::number(row.id as u64);
+    printing::text(b" ");
+    printing::number(row.cost as u64);
+    printing::text(b" ");
+    printing::number(row.validity as u64);
+    printing::text(b" ");
+    printing::number(row.deadline as u64);
+    printing::text(b" ");
+    printing::number(row.period as u64);
+    printing::text(b"\n");
+}
+
+// "objects n", then a line for each object in priority order.
+fn print_plan(plan: Plan) {
+    printing::text(b"objects ");
+    printing::number(plan.count as u64);
+    printing::text(b"\n");
+    for i in 0..64usize {
+        if i < plan.count {
+            let row = plan.rows[i];
+            print_row(row);
+        }
+    }
+}
+
+// The answer to the bytes of a stored table.
+fn answer(bytes: &[u8]) {
+    let read = tables::read(bytes);
+    let verdict = read.verdict;
+    match verdict {
+        Verdict::Refused(refusal, place) => {
+            printing::refused(refusal, place);
+            printing::text(b"\n");
+        }
+        Verdict::Accepted => {
+            let table = read.table;
+            let planned = planning::plan_table(table);
+            let planned_verdict = planned.verdict;
+            match planned_verdict {
+                Verdict::Refused(refusal, place) => {
+                    printing::refused(refusal, place);
+                    printing::text(b"\n");
+                }
+                Verdict::Accepted => {
+                    let plan = planned.plan;
+                    print_plan(plan);
+                }
+            }
+        }
+    }
+}
+
+// One byte more than a table may have is enough to see that there are too many.
+fn main() {
+    let mut bytes = [0u8; 4097];
+    let n = io::read_full(STDIN_FILENO, &mut bytes);
+    answer(&bytes[..n]);
+}

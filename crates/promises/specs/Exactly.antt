@@ -1,0 +1,129 @@
+-- Demand 2 on plans: a well-formed table is refused exactly if some object has no deadline within half its validity, and then with 10;
+-- otherwise each deadline is the smallest number of slots that balances, and the period is validity minus deadline. Assumes nothing.
+use Prim.Native.Nat.{ℕ, zero, suc, _+_, _-_, _*_, _/_, _≤_, _<_}
+use mathlib.Core.Path.{_≡_, refl, sym, ap, _∙_, subst}
+use mathlib.Core.Logic.{_↔_, _⊎_, inl, inr}
+use mathlib.Core.List.{List, [], _∷_, _++_}
+use mathlib.Core.Option.{Option, none, some}
+use native.Mathlib.Decide.{decLt}
+use native.Mathlib.Omega.{arith}
+use Rattle.rules.specs.declared.ObjectRow.{ObjectRow}
+use Rattle.rules.specs.declared.PlanRow.{PlanRow}
+use Rattle.rules.specs.declared.Planned.{Planned}
+use Rattle.rules.specs.declared.Table.{Table}
+use Rattle.rules.specs.declared.Refusal.{Refusal}
+use Rattle.rules.specs.declared.Refusal.the-variants.{NoDeadline}
+use Rattle.rules.specs.declared.Verdict.{Verdict}
+use Rattle.rules.specs.declared.Verdict.the-variants.{Accepted, Refused}
+use Rattle.rules.specs.StoredTable.{tableVerdict}
+use Rattle.rules.specs.Order.{inOrder}
+use Rattle.rules.specs.Deadlines.{needOf, deadlineOf, planRow, refusedPlan, acceptedPlan, withDeadline, planFrom, onAccepted, planOf}
+use Rattle.rules.proofs.Balance.{found, missed}
+
+-- t is the deadline of an object with those rows ahead: the smallest whole t, at least 1, that balances, and 2 t is at most the validity
+pub record IsDeadline (ahead : List PlanRow) (r : ObjectRow) (t : ℕ) : Type 0 where
+  pub one : 1 ≤ t
+  pub half : 2 * t ≤ r .validity
+  pub balances : t ≡ needOf ahead (r .cost) t
+  pub smallest : (s : ℕ) → 1 ≤ s → s < t → s ≡ needOf ahead (r .cost) s → ⊥
+
+-- no t within half the validity balances
+abbrev pub HasNone : List PlanRow → ObjectRow → Type 0
+HasNone ahead r = (t : ℕ) → 1 ≤ t → 2 * t ≤ r .validity → t ≡ needOf ahead (r .cost) t → ⊥
+
+-- the rows, in priority order, are planned as `plans`, each with its deadline and validity minus deadline as its period
+pub data PlannedAs : List PlanRow → List ObjectRow → List PlanRow → Type 0 where
+  done : {plans : List PlanRow} → PlannedAs plans [] plans
+  next : {ahead : List PlanRow} {r : ObjectRow} {rs : List ObjectRow} {plans : List PlanRow} (t : ℕ) → IsDeadline ahead r t → PlannedAs (ahead ++ (planRow r t ∷ [])) rs plans → PlannedAs ahead (r ∷ rs) plans
+
+-- some object has no deadline, and all those ahead of it have theirs
+pub data SomeHasNone : List PlanRow → List ObjectRow → Type 0 where
+  here : {ahead : List PlanRow} {r : ObjectRow} {rs : List ObjectRow} → HasNone ahead r → SomeHasNone ahead (r ∷ rs)
+  behind : {ahead : List PlanRow} {r : ObjectRow} {rs : List ObjectRow} (t : ℕ) → IsDeadline ahead r t → SomeHasNone (ahead ++ (planRow r t ∷ [])) rs → SomeHasNone ahead (r ∷ rs)
+
+-- ── One object ──
+
+is-deadline : (ahead : List PlanRow) (r : ObjectRow) (t : ℕ) → deadlineOf ahead (r .cost) (r .validity) ≡ some t → IsDeadline ahead r t
+is-deadline ahead r t e =
+    let f = found (needOf ahead (r .cost)) (r .validity / 2) 1 t e in
+    record { one = f .from; half = omega (arith, f .below); balances = sym (f .fixed); smallest = λ s a b x. f .moved s a b (sym x) }
+
+has-none : (ahead : List PlanRow) (r : ObjectRow) → deadlineOf ahead (r .cost) (r .validity) ≡ none → HasNone ahead r
+has-none ahead r e t a b x = missed (needOf ahead (r .cost)) (r .validity / 2) 1 e t a (omega arith) (sym x)
+
+-- an object has one deadline at most
+pub one-deadline : {ahead : List PlanRow} {r : ObjectRow} {s t : ℕ} → IsDeadline ahead r s → IsDeadline ahead r t → s ≡ t
+one-deadline {ahead} {r} {s} {t} p q = by-order (decLt s t) (decLt t s)
+  where
+    by-order : Dec (s < t) → Dec (t < s) → s ≡ t
+    by-order (yes a) b = absurd (q .smallest s (p .one) a (p .balances))
+    by-order (no a) (yes b) = absurd (p .smallest t (q .one) b (q .balances))
+    by-order (no a) (no b) = omega arith
+
+-- and not both one and none
+pub not-both : {ahead : List PlanRow} {r : ObjectRow} {t : ℕ} → IsDeadline ahead r t → HasNone ahead r → ⊥
+not-both {ahead} {r} {t} p n = n t (p .one) (p .half) (p .balances)
+
+-- ── The rows in priority order ──
+
+-- the plan, or the refusal
+abbrev Answer : List PlanRow → List ObjectRow → Planned → Type 0
+Answer ahead rs x = ((plans : List PlanRow) × PlannedAs ahead rs plans × (x ≡ acceptedPlan plans)) ⊎ (SomeHasNone ahead rs × (x ≡ refusedPlan NoDeadline 0))
+
+-- which of the two it is, is settled by the deadlines
+planned-or-none : (ahead : List PlanRow) (rs : List ObjectRow) → Answer ahead rs (planFrom ahead rs)
+planned-or-none ahead [] = inl (ahead, done, refl)
+planned-or-none ahead (r ∷ rs) = by-deadline (deadlineOf ahead (r .cost) (r .validity)) refl (λ t. planned-or-none (ahead ++ (planRow r t ∷ [])) rs)
+  where
+    by-deadline : (d : Option ℕ) → deadlineOf ahead (r .cost) (r .validity) ≡ d → ((t : ℕ) → Answer (ahead ++ (planRow r t ∷ [])) rs (planFrom (ahead ++ (planRow r t ∷ [])) rs))
+        → Answer ahead (r ∷ rs) (withDeadline d (λ t. planFrom (ahead ++ (planRow r t ∷ [])) rs) (refusedPlan NoDeadline 0))
+    by-deadline none e others = inr (here (has-none ahead r e), refl)
+    by-deadline (some t) e others = elim (others t) [
+      | inl p ↦ inl (p .0, next t (is-deadline ahead r t e) (p .1), p .2)
+      | inr p ↦ inr (behind t (is-deadline ahead r t e) (p .0), p .1)
+    ]
+
+-- a deadline in place of an equal one
+moved : (ahead : List PlanRow) (r : ObjectRow) {rs : List ObjectRow} {plans : List PlanRow} {s t : ℕ} → s ≡ t → PlannedAs (ahead ++ (planRow r s ∷ [])) rs plans → PlannedAs (ahead ++ (planRow r t ∷ [])) rs plans
+moved ahead r {rs} {plans} = subst (λ (u : ℕ). PlannedAs (ahead ++ (planRow r u ∷ [])) rs plans)
+
+-- the rows are not planned and refused
+clash : {ahead : List PlanRow} {rs : List ObjectRow} {plans : List PlanRow} → PlannedAs ahead rs plans → SomeHasNone ahead rs → ⊥
+clash (next t d p) (here n) = not-both d n
+clash {ahead} (next {r = r} t d p) (behind s e q) = clash (moved ahead r (one-deadline d e) p) q
+
+-- nor planned in two ways
+pub one-plan : {ahead : List PlanRow} {rs : List ObjectRow} {ps qs : List PlanRow} → PlannedAs ahead rs ps → PlannedAs ahead rs qs → ps ≡ qs
+one-plan done done = refl
+one-plan {ahead} (next {r = r} t d p) (next s e q) = one-plan (moved ahead r (one-deadline d e) p) q
+
+-- ── The promise ──
+
+module _ (table : Table) (well-formed : tableVerdict table ≡ Accepted) where
+  settled : planOf table ≡ planFrom [] (inOrder (table .rows) (table .count))
+  settled = rw well-formed
+
+  -- refused exactly if some object has no deadline, and then with 10
+  pub refused-exactly : (planOf table .verdict ≡ Refused NoDeadline 0) ↔ SomeHasNone [] (inOrder (table .rows) (table .count))
+  refused-exactly = elim (planned-or-none [] (inOrder (table .rows) (table .count))) [
+    | inl p ↦ (λ e. (let z : _≡_ {A = ℕ} 0 1 = cc (settled, p .2) in absurd (omega arith)), λ q. absurd (clash (p .1) q))
+    | inr p ↦ (λ e. p .0, λ q. ap (λ (x : Planned). x .verdict) (settled ∙ p .1))
+  ]
+
+  -- planned exactly as the deadlines say
+  pub planned-exactly : (plans : List PlanRow) → PlannedAs [] (inOrder (table .rows) (table .count)) plans → planOf table ≡ acceptedPlan plans
+  planned-exactly plans q = elim (planned-or-none [] (inOrder (table .rows) (table .count))) [
+    | inl p ↦ settled ∙ (p .2 ∙ ap acceptedPlan (one-plan (p .1) q))
+    | inr p ↦ absurd (clash q (p .0))
+  ]
+
+  -- there is no third answer
+  pub planned-or-refused : ((plans : List PlanRow) × PlannedAs [] (inOrder (table .rows) (table .count)) plans × (planOf table ≡ acceptedPlan plans)) ⊎ (planOf table ≡ refusedPlan NoDeadline 0)
+  planned-or-refused = elim (planned-or-none [] (inOrder (table .rows) (table .count))) [
+    | inl p ↦ inl (p .0, p .1, settled ∙ p .2)
+    | inr p ↦ inr (settled ∙ p .1)
+  ]
+
+-- a table that is not well-formed is refused with the number and place of its first fault
+pub ill-formed : (table : Table) (r : Refusal) (k : ℕ) → tableVerdict table ≡ Refused r k → planOf table ≡ refusedPlan r k
+ill-formed table r k e = rw e

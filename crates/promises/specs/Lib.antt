@@ -1,0 +1,4 @@
+pub mod Exactly
+pub mod OnlyOrder
+pub mod AnyRecordOrder
+pub mod SamePlan

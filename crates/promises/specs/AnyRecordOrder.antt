@@ -1,7 +1,7 @@
 -- The plan does not depend on the order of the records: tables whose records are the same in another order have the same plan.
 -- Assumes nothing.
 use Prim.Native.Nat.{ℕ, zero, suc, _+_, _-_, _≤_, _<_}
-use mathlib.Core.Path.{_≡_, refl, sym, ap, _∙_}
+use mathlib.Core.Path.{_≡_, refl, sym, ap, ap₂, _∙_}
 use mathlib.Core.Bool.{Bool, true, false, cond, true≢false}
 use mathlib.Core.List.{List, [], _∷_, _++_}
 use native.Mathlib.Omega.{arith}
@@ -9,7 +9,7 @@ use native.Mathlib.Decide.{ℕ-discrete}
 use borrow.Author.Tests.{le-leb}
 use lib.Dec.{eqb}
 use lib.ListN.{length, getD, take}
-use lib.Seq.{take-suc, length-take-le}
+use lib.Seq.{take-suc, length-take-le, getD-take}
 use Rattle.rules.specs.declared.ObjectRow.{ObjectRow}
 use Rattle.rules.specs.declared.Table.{Table}
 use Rattle.rules.specs.declared.Verdict.the-variants.{Accepted}
@@ -111,6 +111,13 @@ order-rows : (rows : List ObjectRow) (n : ℕ) → inOrder rows n ≡ sortRows (
 order-rows rows zero = refl
 order-rows rows (suc n) = insert-rows rows n (placesOf rows n) ∙ ap (insertRow (rowAt rows n)) (order-rows rows n)
 
+-- only the first n rows are read
+backwards-reads : (rows rows′ : List ObjectRow) (n m : ℕ) → m ≤ n → take n rows ≡ take n rows′ → backwards rows m ≡ backwards rows′ m
+backwards-reads rows rows′ n zero h e = refl
+backwards-reads rows rows′ n (suc m) h e =
+    let a : rowAt rows m ≡ rowAt rows′ m = sym (getD-take n rows m noRow h) ∙ (ap (λ (l : List ObjectRow). getD l m noRow) e ∙ getD-take n rows′ m noRow h) in
+    ap₂ (λ (x : ObjectRow) (xs : List ObjectRow). x ∷ xs) a (backwards-reads rows rows′ n m (omega arith) e)
+
 -- ── Backwards is a permutation ──
 
 perm-same : (xs : List ObjectRow) → Perm xs xs
@@ -192,3 +199,11 @@ module _ (t t′ : Table) (size : Sized t) (size′ : Sized t′) (well-formed :
       let o : sortRows (backwards (t .rows) (t .count)) ≡ sortRows (backwards (t′ .rows) (t′ .count)) =
       same-order (then (perm-back p) (then same p′)) (perm-distinct p (checks-apart 0 [] (rowsIn t) checked .1)) in
       rw (well-formed, still-formed, order-rows (t .rows) (t .count), order-rows (t′ .rows) (t′ .count), o)
+
+-- rows beyond the count are not read: tables that differ only there have the same plan, or the same refusal
+pub beyond-unread : (t t′ : Table) → t .count ≡ t′ .count → rowsIn t ≡ rowsIn t′ → planOf t ≡ planOf t′
+beyond-unread t t′ c e =
+    let n = t .count in
+    let f : take n (t .rows) ≡ take n (t′ .rows) = rw (← c) at e in
+    let o : inOrder (t .rows) n ≡ inOrder (t′ .rows) n = order-rows (t .rows) n ∙ (ap sortRows (backwards-reads (t .rows) (t′ .rows) n n (omega arith) f) ∙ sym (order-rows (t′ .rows) n)) in
+    rw (← c, f, o)

@@ -8,6 +8,7 @@ use denote.Ref.{RefT, ptr, now}
 use lib.Dec.{eqb, leb, ltb}
 use lib.ListN.{length, take, drop, getD, replicate}
 use Rattle.rules.specs.declared.ObjectRow.{ObjectRow}
+use Rattle.rules.specs.declared.Part.{Part}
 use Rattle.rules.specs.declared.Table.{Table}
 use Rattle.rules.specs.declared.ReadTable.{ReadTable}
 use Rattle.rules.specs.declared.Refusal.{Refusal}
@@ -158,25 +159,32 @@ readOf s = answer (readVerdict s) (tableOf (storedRows s))
 
 -- ── The choice ──
 
+-- whether a verdict is no refusal
+abbrev pub accepts : Verdict → Bool
+accepts Accepted = true
+accepts (Refused r k) = false
+
+-- where the records part of bytes lies, of the site bytes or of the factory bytes
+abbrev pub recordsPart : List ℕ → Bool → Part
+recordsPart s site = record { site = site; start = recordsStart s; length = 12 * countOf s }
+
+-- "the records part of the site table if the site table reads without refusal, otherwise the records part of the factory table
+-- if that one does, otherwise the empty part at the start of the factory bytes"
+abbrev pub chosenPart : List ℕ → List ℕ → Part
+chosenPart site factory =
+    cond (accepts (readVerdict site)) (recordsPart site true)
+    (cond (accepts (readVerdict factory)) (recordsPart factory false)
+    (record { site = false; start = 0; length = 0 }))
+
 -- r is the part of the lent bytes s, and no copy, of `size` bytes from `start` on: in the same block, `start` further on, and those bytes
 pub record PartOf (r s : RefT (List ℕ)) (start size : ℕ) : Type 0 where
   pub block : ptr r .0 ≡ ptr s .0
   pub offset : ptr r .1 ≡ ptr s .1 + start
   pub bytes : now r ≡ take size (drop start (now s))
 
--- r is the records part of s
-abbrev pub RecordsPart : RefT (List ℕ) → RefT (List ℕ) → Type 0
-RecordsPart r s = PartOf r s (recordsStart (now s)) (12 * countOf (now s))
+-- "It is that part of the lent bytes, and no copy."
+abbrev pub IsPart : RefT (List ℕ) → RefT (List ℕ) → RefT (List ℕ) → Part → Type 0
+IsPart r site factory part = cond (part .site) (PartOf r site (part .start) (part .length)) (PartOf r factory (part .start) (part .length))
 
--- whether a verdict is no refusal
-abbrev pub accepts : Verdict → Bool
-accepts Accepted = true
-accepts (Refused r k) = false
-
--- "the records part of the site table if the site table reads without refusal, otherwise the records part of the factory table
--- if that one does, otherwise the empty part at the start of the factory bytes"
 abbrev pub Chosen : RefT (List ℕ) → RefT (List ℕ) → RefT (List ℕ) → Type 0
-Chosen r site factory =
-    cond (accepts (readVerdict (now site))) (RecordsPart r site)
-    (cond (accepts (readVerdict (now factory))) (RecordsPart r factory)
-    (PartOf r factory 0 0))
+Chosen r site factory = IsPart r site factory (chosenPart (now site) (now factory))

@@ -66,6 +66,13 @@ pub struct Planned {
     pub plan: Plan,
 }
 
+// A part of the site bytes or of the factory bytes: where it begins and how many bytes it has.
+pub struct Part {
+    pub site: bool,
+    pub start: usize,
+    pub length: usize,
+}
+
 // The number of a refusal in document 01.
 pub fn refusal_number(refusal: Refusal) -> u8
     ensures { λ r. ⌜ r ≡ numberOf refusal ⌝ }

@@ -1,18 +1,19 @@
 -- What the trailer's checks say, one by one, and what is known of bytes that pass them. Assumes nothing.
 use Prim.Native.Nat.{ℕ, _+_, _-_, _*_, _≤_, _<_}
 use mathlib.Core.Path.{_≡_, refl, _∙_}
-use mathlib.Core.Bool.{true}
+use mathlib.Core.Bool.{Bool, true, false, cond}
 use mathlib.Core.List.{List}
 use native.Mathlib.Omega.{arith}
 use borrow.Author.Tests.{lt-ltb, le-ltb, ltb-false, eq-eqb, ne-eqb}
 use lib.Dec.{eqb, ltb}
 use lib.ListN.{length}
+use Rattle.rules.specs.declared.Part.{Part}
 use Rattle.rules.specs.declared.Table.{Table}
 use Rattle.rules.specs.declared.Refusal.the-variants.{TooShort, TooLong, WrongMark, CountRange, DistanceRange}
 use Rattle.rules.specs.declared.Verdict.{Verdict}
 use Rattle.rules.specs.declared.Verdict.the-variants.{Accepted, Refused}
 use Rattle.rules.specs.Refusals.{firstRefusal}
-use Rattle.rules.specs.StoredTable.{distanceOf, countOf, markOf, tableMark, countVerdict, distanceVerdict, trailerVerdict, answer, accepts, readVerdict}
+use Rattle.rules.specs.StoredTable.{distanceOf, countOf, markOf, tableMark, countVerdict, distanceVerdict, trailerVerdict, answer, accepts, readVerdict, recordsPart, chosenPart}
 use Rattle.rules.proofs.Checks.{count-in, count-few, count-many, count-said, both-accept, test-passed, not-met}
 
 module _ (s : List ℕ) where
@@ -54,6 +55,7 @@ module _ (s : List ℕ) where
 -- what a trailer that passes says
 pub record Readable (s : List ℕ) : Type 0 where
   pub long : 8 ≤ length s
+  pub short : length s ≤ 4096
   pub some : 1 ≤ countOf s
   pub few : countOf s ≤ 64
   pub room : 8 + 12 * countOf s ≤ distanceOf s
@@ -70,6 +72,7 @@ readable s e =
     let e8 = not-met (ltb (length s) (distanceOf s)) DistanceRange 0 _ (e7 .1) in
     record {
       long = ltb-false (length s) 8 (e1 .0);
+      short = ltb-false 4096 (length s) (e2 .0);
       some = n .0;
       few = n .1;
       room = ltb-false (distanceOf s) (8 + 12 * countOf s) (e7 .0);
@@ -88,3 +91,17 @@ reads-trailer s e = both-accept (trailerVerdict s) _ (accepted (readVerdict s) e
     accepted : (v : Verdict) → accepts v ≡ true → v ≡ Accepted
     accepted Accepted e = refl
     accepted (Refused r k) e = let z : _≡_ {A = ℕ} 0 1 = cc in absurd (omega arith)
+
+-- the chosen part lies within the bytes that it is of
+pub record Within (site factory : List ℕ) (part : Part) : Type 0 where
+  pub small : part .start + part .length ≤ 4096
+  pub inside : part .start + part .length ≤ length (cond (part .site) site factory)
+
+pub chosen-within : (site factory : List ℕ) → Within site factory (chosenPart site factory)
+chosen-within site factory = step (accepts (readVerdict site)) refl (accepts (readVerdict factory)) refl
+  where
+    step : (a : Bool) → accepts (readVerdict site) ≡ a → (b : Bool) → accepts (readVerdict factory) ≡ b
+        → Within site factory (cond a (recordsPart site true) (cond b (recordsPart factory false) (record { site = false; start = 0; length = 0 })))
+    step true e b f = let r = readable site (reads-trailer site e) in record { small = omega arith; inside = omega arith }
+    step false e true f = let r = readable factory (reads-trailer factory f) in record { small = omega arith; inside = omega arith }
+    step false e false f = record { small = omega arith; inside = omega arith }

@@ -1,6 +1,7 @@
 // Both doors and the choice: stored bytes to a table, lent rows to a table, and the records part of the site or the factory table.
 // Any bytes and any rows may be handed in; what is bad is refused with the number and the place of document 01.
 use rules::ObjectRow;
+use rules::Part;
 use rules::ReadTable;
 use rules::Refusal;
 use rules::Table;
@@ -10,7 +11,7 @@ ghost use mathlib.Core.List.{_++_};
 ghost use Prim.Native.Nat.{_+_, _-_, _*_, _≤_, _<_};
 ghost use lib.ListN.{length, replicate};
 ghost use Rattle.rules.specs.declared.Verdict.the-variants.{Accepted};
-ghost use Rattle.rules.specs.StoredTable.{noRow, le16, le32, trailerVerdict, countOf, recordsStart, rowOf, spareOf, recordsOf, readOf, readVerdict, doorOf, accepts, RecordsPart, Chosen};
+ghost use Rattle.rules.specs.StoredTable.{noRow, le16, le32, trailerVerdict, countOf, recordsStart, rowOf, spareOf, recordsOf, readOf, readVerdict, doorOf, accepts, recordsPart, chosenPart, Chosen};
 ghost use Rattle.tables.specs.Copied.{copiedOf, emptyOf, placed, checkedOf};
 
 // A byte as a wider number. That it stays below 256 is said for the callers.
@@ -237,15 +238,35 @@ fn reads(bytes: &[u8]) -> bool
     }
 }
 
-// The records part of bytes whose trailer is in order.
-fn records<'a>(bytes: &'a [u8]) -> &'a [u8]
+// Where the records part of bytes lies whose trailer is in order.
+fn records_part(bytes: &[u8], site: bool) -> Part
     requires { ⌜ trailerVerdict (now bytes) ≡ Accepted ⌝ }
-    ensures { λ r. ⌜ RecordsPart r (bytes .entry) ⌝ }
+    ensures { λ r. ⌜ r ≡ recordsPart (now (bytes .entry)) site ⌝ }
 {
-    let count = records_count(bytes);
     let start = records_start(bytes);
-    let end = start + 12 * count;
-    &bytes[start..end]
+    let length = 12 * records_count(bytes);
+    Part {
+        site,
+        start,
+        length,
+    }
+}
+
+// The choice, as a place: of the site bytes or of the factory bytes, where it begins, and how many bytes it has.
+pub fn chosen_part(site: &[u8], factory: &[u8]) -> Part
+    ensures { λ r. ⌜ r ≡ chosenPart (now (site .entry)) (now (factory .entry)) ⌝ }
+{
+    if reads(site) {
+        return records_part(site, true);
+    }
+    if reads(factory) {
+        return records_part(factory, false);
+    }
+    Part {
+        site: false,
+        start: 0,
+        length: 0,
+    }
 }
 
 // The choice: the records part of the site table if that reads, otherwise of the factory table if that one does, otherwise the
@@ -253,11 +274,11 @@ fn records<'a>(bytes: &'a [u8]) -> &'a [u8]
 pub fn choose<'a>(site: &'a [u8], factory: &'a [u8]) -> &'a [u8]
     ensures { λ r. ⌜ Chosen r (site .entry) (factory .entry) ⌝ }
 {
-    if reads(site) {
-        return records(site);
+    let part = chosen_part(site, factory);
+    let start = part.start;
+    let end = start + part.length;
+    if part.site {
+        return &site[start..end];
     }
-    if reads(factory) {
-        return records(factory);
-    }
-    &factory[0..0]
+    &factory[start..end]
 }

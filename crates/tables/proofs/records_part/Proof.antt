@@ -1,0 +1,30 @@
+-- `tables::records_part` meets its contract. Assumes nothing.
+use native.Mathlib.Omega.{arith}
+use Rattle.tables.proofs.Trailer.{readable}
+use borrow.Author.Needs.{needs}
+use Rattle.tables.proofs.records_part.Statement.{statement}
+use Rattle.tables.proofs.records_part.Tie as tie
+use Rattle.tables.proofs.records_part.Reads as reads
+use Rattle.tables.proofs.records_part.Lts as lts
+use Rattle.tables.proofs.records_count.Reads as records-count-reads
+use Rattle.tables.proofs.records_start.Reads as records-start-reads
+
+-- src/lib.rt:246:9
+records-start-requires : tie.Need-records-start-requires
+records-start-requires c κs = search needs
+
+-- src/lib.rt:247:23
+records-count-requires : tie.Need-records-count-requires
+records-count-requires c κs = search needs
+
+-- src/lib.rt:247:18
+mul-length : tie.Need-mul-length
+mul-length c = let r = readable (c .before .before .before .args .bytes .now) (c .before .before .before .pre) in omega (arith, c .records-count .ensures)
+
+-- src/lib.rt:242:1
+returns : tie.Need-returns
+returns c = rw (c .records-count .ensures, c .before .records-start .ensures)
+
+pub records-part-spec : {M : Type 1} → statement M
+records-part-spec =
+    tie.close (tie.spec records-start-requires records-count-requires mul-length returns)

@@ -5,12 +5,12 @@ use rules::Table;
 use rules::Verdict;
 
 // An object row of (cost, validity), with an id.
-fn row(id: u16, cost: u32, validity: u32) -> ObjectRow {
+pub(crate) fn row(id: u16, cost: u32, validity: u32) -> ObjectRow {
     ObjectRow { id, cost, validity }
 }
 
 // A table of the first `count` of three rows.
-fn table(count: usize, first: ObjectRow, second: ObjectRow, third: ObjectRow) -> Table {
+pub(crate) fn table(count: usize, first: ObjectRow, second: ObjectRow, third: ObjectRow) -> Table {
     let none = row(0, 0, 0);
     let mut rows = [none; 64];
     rows[0] = first;
@@ -73,7 +73,8 @@ fn two(name: &[u8], cost: u32, validity: u32, other_cost: u32, other_validity: u
     );
 }
 
-pub fn cases() {
+// The tables of documents 000 and 002.
+fn papers() {
     two(b"(1,3), (2,20)", 1, 3, 2, 20);
     plan_case(
         b"(1,8), (1,10), (1,12)",
@@ -87,13 +88,25 @@ pub fn cases() {
         b"(2,8), (2,10), (2,11)",
         table(3, row(1, 2, 8), row(2, 2, 10), row(3, 2, 11)),
     );
+}
+
+// One object, two objects, and the limits of a cost.
+fn limits() {
     one(b"(1,2)", 1, 2);
     two(b"(1,2), (1,1000000)", 1, 2, 1, 1000000);
     one(b"(500000,1000000)", 500000, 1000000);
     one(b"(500001,1000000)", 500001, 1000000);
+}
+
+// Ties.
+fn ties() {
     two(b"(1,3), (1,4)", 1, 3, 1, 4);
     two(b"(1,3), (1,3)", 1, 3, 1, 3);
     two(b"id 1 (1,10), id 2 (3,10)", 1, 10, 3, 10);
+}
+
+// Rows that are refused before they are planned.
+fn refusals() {
     one(b"cost 0", 0, 10);
     one(b"validity 1000001", 1, 1000001);
     plan_case(
@@ -108,4 +121,11 @@ pub fn cases() {
         b"equal ids in the first and the third row",
         table(3, row(1, 1, 10), row(2, 1, 10), row(1, 1, 10)),
     );
+}
+
+pub fn cases() {
+    papers();
+    limits();
+    ties();
+    refusals();
 }

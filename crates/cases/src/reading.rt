@@ -37,14 +37,26 @@ fn choice_case<'a>(name: &[u8], site: &'a [u8], factory: &'a [u8]) {
 
 // The trailer: checks 1 to 5.
 fn trailers() {
+    lengths();
+    counts();
+    distances();
+}
+
+fn lengths() {
     read_case(b"no bytes", &[0u8; 0]);
     read_case(b"7 bytes", &[0u8; 7]);
     read_case(b"8 zero bytes", &[0u8; 8]);
     read_case(b"4096 zero bytes", &[0u8; 4096]);
     read_case(b"4097 zero bytes", &[0u8; 4097]);
+}
+
+fn counts() {
     read_case(b"count 0", &[8, 0, 0, 0, 0, 0, 0x4D, 0x4C]);
     read_case(b"count 65", &[8, 0, 0, 0, 65, 0, 0x4D, 0x4C]);
     read_case(b"count 65535", &[8, 0, 0, 0, 255, 255, 0x4D, 0x4C]);
+}
+
+fn distances() {
     read_case(
         b"one record and distance 19",
         &[

@@ -2,4 +2,6 @@ pub mod Refusals
 pub mod StoredTable
 pub mod Order
 pub mod Deadlines
+pub mod RunState
+pub mod Run
 pub mod Numbers

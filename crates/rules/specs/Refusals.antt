@@ -2,7 +2,7 @@
 -- Assumes nothing.
 use Prim.Native.Nat.{ℕ}
 use Rattle.rules.specs.declared.Refusal.{Refusal}
-use Rattle.rules.specs.declared.Refusal.the-variants.{TooShort, TooLong, WrongMark, CountRange, DistanceRange, SpareUsed, CostRange, ValidityRange, IdRepeated, NoDeadline}
+use Rattle.rules.specs.declared.Refusal.the-variants.{TooShort, TooLong, WrongMark, CountRange, DistanceRange, SpareUsed, CostRange, ValidityRange, IdRepeated, NoDeadline, FirstsCount, FirstRange, NotRunState, NoSuchId}
 use Rattle.rules.specs.declared.Verdict.{Verdict}
 use Rattle.rules.specs.declared.Verdict.the-variants.{Accepted, Refused}
 
@@ -18,6 +18,10 @@ numberOf CostRange = 7
 numberOf ValidityRange = 8
 numberOf IdRepeated = 9
 numberOf NoDeadline = 10
+numberOf FirstsCount = 11
+numberOf FirstRange = 12
+numberOf NotRunState = 13
+numberOf NoSuchId = 14
 
 -- "Order: 1 to 5 as numbered. Then the records": what is checked later counts only where nothing was refused before
 abbrev pub firstRefusal : Verdict → Verdict → Verdict

@@ -34,6 +34,32 @@ pub struct Plan {
     pub rows: [PlanRow; 64],
 }
 
+// The stored value of an object: none, held with its sample instant, or lapsed.
+pub enum Stored {
+    Empty,
+    Held(u32),
+    Lapsed,
+}
+
+// One object of a run: its planned numbers, the clock value of the next release, the work left of the job in hand, that job's
+// sample instant and whether it has lapsed, the stored value, and how many releases were skipped.
+pub struct RunRow {
+    pub planned: PlanRow,
+    pub next: u32,
+    pub left: u32,
+    pub sample: u32,
+    pub lapsed: bool,
+    pub stored: Stored,
+    pub skips: u32,
+}
+
+// A run: the slot clock, and `count` objects in priority order.
+pub struct Run {
+    pub clock: u32,
+    pub count: usize,
+    pub rows: [RunRow; 64],
+}
+
 // Why something is refused, one case for each number of document 01.
 pub enum Refusal {
     TooShort,
@@ -46,6 +72,10 @@ pub enum Refusal {
     ValidityRange,
     IdRepeated,
     NoDeadline,
+    FirstsCount,
+    FirstRange,
+    NotRunState,
+    NoSuchId,
 }
 
 // Accepted, or the refusal with its place.
@@ -64,6 +94,26 @@ pub struct ReadTable {
 pub struct Planned {
     pub verdict: Verdict,
     pub plan: Plan,
+}
+
+// What starting answers: the run, or the refusal with an empty run.
+pub struct Started {
+    pub verdict: Verdict,
+    pub run: Run,
+}
+
+// What a step answers: the run after it, or the refusal with the run as it came in.
+pub struct Stepped {
+    pub verdict: Verdict,
+    pub run: Run,
+}
+
+// What a reading answers: no value yet, a lapsed one, a fresh one with its age, or the refusal.
+pub enum Reading {
+    Never,
+    Stale,
+    Fresh(u32),
+    Refused(Refusal, usize),
 }
 
 // A part of the site bytes or of the factory bytes: where it begins and how many bytes it has.
@@ -88,6 +138,10 @@ pub fn refusal_number(refusal: Refusal) -> u8
         Refusal::ValidityRange => 8,
         Refusal::IdRepeated => 9,
         Refusal::NoDeadline => 10,
+        Refusal::FirstsCount => 11,
+        Refusal::FirstRange => 12,
+        Refusal::NotRunState => 13,
+        Refusal::NoSuchId => 14,
     }
 }
 

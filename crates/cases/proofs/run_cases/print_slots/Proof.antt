@@ -1,0 +1,62 @@
+-- `cases::run_cases::print_slots` stays within the bytes and ends. Assumes nothing.
+use Prim.Native.Nat.{_≤_, _-_}
+use borrow.Author.Needs.{needs}
+use Rattle.cases.proofs.run_cases.print_slots.Statement.{statement}
+use Rattle.cases.proofs.run_cases.print_slots.Tie as tie
+use Rattle.cases.proofs.run_cases.print_slots.Reads as reads
+use Rattle.cases.proofs.run_cases.print_slots.Lts as lts
+use Rattle.cases.proofs.run_cases.print_state.Reads as print-state-reads
+use Rattle.running.proofs.slot.Reads as slot-reads
+
+abbrev Inv-loop : tie.InvT-loop
+Inv-loop stolen now₀ k₀ k-end now k = k ≤ k-end
+
+abbrev μ-loop : tie.MeasureT-loop
+μ-loop stolen now₀ k₀ k-end now k = k-end - k
+
+-- src/run_cases.rt:42:5
+loop-holds : tie.Need-loop-holds Inv-loop μ-loop
+loop-holds c = search needs
+
+-- src/run_cases.rt:43:42
+shared-slice-read-slot : tie.Need-shared-slice-read-slot Inv-loop μ-loop
+shared-slice-read-slot c = search needs
+
+-- src/run_cases.rt:43:13
+slot-requires : tie.Need-slot-requires Inv-loop μ-loop
+slot-requires c κs = search needs
+
+-- src/run_cases.rt:46:9
+print-state-requires : tie.Need-print-state-requires Inv-loop μ-loop
+print-state-requires c κs = search needs
+
+-- src/run_cases.rt:42:9
+add-k : tie.Need-add-k Inv-loop μ-loop
+add-k c = search needs
+
+-- src/run_cases.rt:42:5
+loop-less : tie.Need-loop-less Inv-loop μ-loop
+loop-less c = search needs
+
+-- src/run_cases.rt:42:5
+loop-again : tie.Need-loop-again Inv-loop μ-loop
+loop-again c = search needs
+
+-- src/run_cases.rt:40:1
+returns : tie.Need-returns Inv-loop μ-loop
+returns c = search needs
+
+pub print-slots-spec : {M : Type 1} → statement M
+print-slots-spec =
+    tie.close
+    (tie.spec
+    Inv-loop
+    μ-loop
+    loop-holds
+    shared-slice-read-slot
+    slot-requires
+    print-state-requires
+    add-k
+    loop-less
+    loop-again
+    returns)

@@ -1,0 +1,10 @@
+pub mod ThreeSteps
+pub mod Lists
+pub mod Turns
+pub mod Scan
+pub mod Checked
+pub mod Found
+pub mod CalmSlots
+pub mod Going
+pub mod Firsts
+pub mod PlanCount

@@ -144,7 +144,7 @@ perm-backwards rows (suc n) h =
 -- ── Well-formed rows stay so in another order ──
 
 -- the checks pass exactly if each row is in its ranges and no id comes twice
-checks-apart : (at : ℕ) (seen rs : List ObjectRow) → checksFrom [] at seen rs ≡ Accepted → Every (λ r. hasId (r .id) seen ≡ false) rs × Distinct rs
+pub checks-apart : (at : ℕ) (seen rs : List ObjectRow) → checksFrom [] at seen rs ≡ Accepted → Every (λ r. hasId (r .id) seen ≡ false) rs × Distinct rs
 checks-apart at seen [] e = (tt, tt)
 checks-apart at seen (r ∷ rs) e =
     let f = first-passed [] at seen r rs e in

@@ -1,9 +1,9 @@
 -- Demand 2 on plans: a well-formed table is refused exactly if some object has no deadline within half its validity, and then with 10;
 -- otherwise each deadline is the smallest number of slots that balances, and the period is validity minus deadline. Assumes nothing.
 use Prim.Native.Nat.{ℕ, zero, suc, _+_, _-_, _*_, _/_, _≤_, _<_}
-use mathlib.Core.Path.{_≡_, refl, sym, ap, _∙_, subst}
+use mathlib.Core.Path.{_≡_, refl, sym, ap, ap₂, _∙_, subst}
 use mathlib.Core.Logic.{_↔_, _⊎_, inl, inr}
-use mathlib.Core.List.{List, [], _∷_, _++_}
+use mathlib.Core.List.{List, [], _∷_, _++_, append-assoc, append-nil}
 use mathlib.Core.Option.{Option, none, some}
 use native.Mathlib.Decide.{decLt}
 use native.Mathlib.Omega.{arith}
@@ -31,10 +31,10 @@ pub record IsDeadline (ahead : List PlanRow) (r : ObjectRow) (t : ℕ) : Type 0 
 abbrev pub HasNone : List PlanRow → ObjectRow → Type 0
 HasNone ahead r = (t : ℕ) → 1 ≤ t → 2 * t ≤ r .validity → t ≡ needOf ahead (r .cost) t → ⊥
 
--- the rows, in priority order, are planned as `plans`, each with its deadline and validity minus deadline as its period
+-- the rows, in priority order behind those of `ahead`, are planned as `plans`, each with its deadline and validity minus deadline as its period
 pub data PlannedAs : List PlanRow → List ObjectRow → List PlanRow → Type 0 where
-  done : {plans : List PlanRow} → PlannedAs plans [] plans
-  next : {ahead : List PlanRow} {r : ObjectRow} {rs : List ObjectRow} {plans : List PlanRow} (t : ℕ) → IsDeadline ahead r t → PlannedAs (ahead ++ (planRow r t ∷ [])) rs plans → PlannedAs ahead (r ∷ rs) plans
+  done : {ahead : List PlanRow} → PlannedAs ahead [] []
+  next : {ahead : List PlanRow} {r : ObjectRow} {rs : List ObjectRow} {plans : List PlanRow} (t : ℕ) → IsDeadline ahead r t → PlannedAs (ahead ++ (planRow r t ∷ [])) rs plans → PlannedAs ahead (r ∷ rs) (planRow r t ∷ plans)
 
 -- some object has no deadline, and all those ahead of it have theirs
 pub data SomeHasNone : List PlanRow → List ObjectRow → Type 0 where
@@ -68,18 +68,18 @@ not-both {ahead} {r} {t} p n = n t (p .one) (p .half) (p .balances)
 
 -- the plan, or the refusal
 abbrev Answer : List PlanRow → List ObjectRow → Planned → Type 0
-Answer ahead rs x = ((plans : List PlanRow) × PlannedAs ahead rs plans × (x ≡ acceptedPlan plans)) ⊎ (SomeHasNone ahead rs × (x ≡ refusedPlan NoDeadline 0))
+Answer ahead rs x = ((plans : List PlanRow) × PlannedAs ahead rs plans × (x ≡ acceptedPlan (ahead ++ plans))) ⊎ (SomeHasNone ahead rs × (x ≡ refusedPlan NoDeadline 0))
 
 -- which of the two it is, is settled by the deadlines
 planned-or-none : (ahead : List PlanRow) (rs : List ObjectRow) → Answer ahead rs (planFrom ahead rs)
-planned-or-none ahead [] = inl (ahead, done, refl)
+planned-or-none ahead [] = inl ([], done, rw append-nil)
 planned-or-none ahead (r ∷ rs) = by-deadline (deadlineOf ahead (r .cost) (r .validity)) refl (λ t. planned-or-none (ahead ++ (planRow r t ∷ [])) rs)
   where
     by-deadline : (d : Option ℕ) → deadlineOf ahead (r .cost) (r .validity) ≡ d → ((t : ℕ) → Answer (ahead ++ (planRow r t ∷ [])) rs (planFrom (ahead ++ (planRow r t ∷ [])) rs))
         → Answer ahead (r ∷ rs) (withDeadline d (λ t. planFrom (ahead ++ (planRow r t ∷ [])) rs) (refusedPlan NoDeadline 0))
     by-deadline none e others = inr (here (has-none ahead r e), refl)
     by-deadline (some t) e others = elim (others t) [
-      | inl p ↦ inl (p .0, next t (is-deadline ahead r t e) (p .1), p .2)
+      | inl p ↦ inl (planRow r t ∷ p .0, next t (is-deadline ahead r t e) (p .1), rw (append-assoc ahead (planRow r t ∷ []) (p .0)) at (p .2))
       | inr p ↦ inr (behind t (is-deadline ahead r t e) (p .0), p .1)
     ]
 
@@ -95,7 +95,9 @@ clash {ahead} (next {r = r} t d p) (behind s e q) = clash (moved ahead r (one-de
 -- nor planned in two ways
 pub one-plan : {ahead : List PlanRow} {rs : List ObjectRow} {ps qs : List PlanRow} → PlannedAs ahead rs ps → PlannedAs ahead rs qs → ps ≡ qs
 one-plan done done = refl
-one-plan {ahead} (next {r = r} t d p) (next s e q) = one-plan (moved ahead r (one-deadline d e) p) q
+one-plan {ahead} (next {r = r} t d p) (next s e q) =
+    let x = one-deadline d e in
+    ap₂ (λ (u : ℕ) (l : List PlanRow). planRow r u ∷ l) x (one-plan (moved ahead r x p) q)
 
 -- ── The promise ──
 

@@ -121,7 +121,7 @@ zeros (suc n) (suc k) = zeros n k
 -- ── What accepted rows say ──
 
 -- a refusal is no acceptance
-refused-not : {r : Refusal} {k : ℕ} → Refused r k ≡ Accepted → ⊥
+pub refused-not : {r : Refusal} {k : ℕ} → Refused r k ≡ Accepted → ⊥
 refused-not e = let z : _≡_ {A = ℕ} 0 1 = cc in omega arith
 
 -- the first of two verdicts is no refusal where both together are none, and so is the second

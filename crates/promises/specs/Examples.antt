@@ -1,0 +1,140 @@
+-- Document 01, "Numbers to hold against it": its runs, computed by one statement over a table of them, and demand 3 put to use on one.
+-- Assumes nothing: the definitions are computed.
+use Prim.Native.Nat.{ℕ, zero, suc, _≤_, _<_}
+use mathlib.Core.Path.{_≡_, refl}
+use mathlib.Core.Bool.{Bool, false, cond}
+use mathlib.Core.List.{List, [], _∷_, map}
+use mathlib.Core.Option.{Option, none, some}
+use native.Mathlib.Omega.{arith}
+use lib.Dec.{eqb}
+use lib.ListN.{length}
+use Rattle.rules.specs.declared.ObjectRow.{ObjectRow}
+use Rattle.rules.specs.declared.RunRow.{RunRow}
+use Rattle.rules.specs.declared.Run.{Run}
+use Rattle.rules.specs.declared.Reading.{Reading}
+use Rattle.rules.specs.declared.Reading.the-variants.{Never, Stale, Fresh}
+use Rattle.rules.specs.StoredTable.{tableOf}
+use Rattle.rules.specs.RunState.{usedRows, rowOk, rowNone, every, notIn, distinct, acceptable}
+use Rattle.rules.specs.Run.{startOf, releasedOf, stepOne, servedOf, serveFirst, agedOf, slotOf, isStolen, slotsOf, advancedOf, readFrom, readingOf}
+use Rattle.rules.specs.Numbers.{row}
+use Rattle.promises.specs.History.{State, objectsIn, history, trueAge}
+use Rattle.promises.specs.Encode.{runAfter, stolenIn, NothingLeft}
+use Rattle.promises.specs.Promises.{runOf, demand-3-fresh}
+
+-- a table that is started, and a byte for each slot: 0, or 1 where it is stolen
+pub record Course : Type 0 where
+  pub rows : List ObjectRow
+  pub clock : ℕ
+  pub firsts : List ℕ
+  pub slots : List ℕ
+
+-- what is looked at when these slots are over: the clock, the ids of the objects that the slots went to (0 for none),
+-- and of each object, in priority order, its reading, the true age of its stored value in the history, the work left and the skips
+pub record Seen : Type 0 where
+  pub clock : ℕ
+  pub went : List ℕ
+  pub readings : List Reading
+  pub ages : List (Option ℕ)
+  pub lefts : List ℕ
+  pub skips : List ℕ
+
+-- the id of the first row with work left
+abbrev firstWork : List RunRow → ℕ
+firstWork [] = 0
+firstWork (r ∷ rs) = cond (eqb (r .left) 0) (firstWork rs) (r .planned .id)
+
+abbrev wentTo : Run → List ℕ → List ℕ
+wentTo run [] = []
+wentTo run (s ∷ ss) = cond (isStolen s) 0 (firstWork (stepOne (run .clock) (usedRows run))) ∷ wentTo (slotOf run (isStolen s)) ss
+
+abbrev seen : Course → Seen
+seen c =
+    let table = tableOf (c .rows) in
+    let from = startOf table (c .clock) (c .firsts) .run in
+    let run = advancedOf from (c .slots) .run in
+    let states = history (objectsIn table (c .firsts)) (stolenIn (c .slots)) (length (c .slots)) in
+    record {
+      clock = run .clock;
+      went = wentTo from (c .slots);
+      readings = map (λ (r : RunRow). readingOf run (r .planned .id)) (usedRows run);
+      ages = map (λ (w : State). trueAge (length (c .slots)) (w .value)) states;
+      lefts = map (λ (r : RunRow). r .left) (usedRows run);
+      skips = map (λ (r : RunRow). r .skips) (usedRows run);
+    }
+
+-- 002, Figure 2
+abbrev figure-2 : List ObjectRow
+figure-2 = row 1 2 8 ∷ row 2 2 10 ∷ row 3 2 12 ∷ []
+
+pub record Case : Type 0 where
+  pub course : Course
+  pub answer : Seen
+
+abbrev pub table : List Case
+table =
+    -- 002's set with first releases 2, 1, 0: slots go to objects 3, 2, 1, 1, 2, 3, and instant 6 has nothing left over
+    record {
+      course = record { rows = figure-2; clock = 0; firsts = 2 ∷ 1 ∷ 0 ∷ []; slots = 0 ∷ 0 ∷ 0 ∷ 0 ∷ 0 ∷ 0 ∷ [] };
+      answer = record {
+        clock = 6;
+        went = 3 ∷ 2 ∷ 1 ∷ 1 ∷ 2 ∷ 3 ∷ [];
+        readings = Fresh 4 ∷ Fresh 5 ∷ Fresh 6 ∷ [];
+        ages = some 4 ∷ some 5 ∷ some 6 ∷ [];
+        lefts = 0 ∷ 0 ∷ 0 ∷ [];
+        skips = 0 ∷ 0 ∷ 0 ∷ [];
+      };
+    }
+    -- (1,2), first release 0, slots 0 to 2 stolen: three skips, at 1, 2 and 3; the slot 3 ends the job of instant 0
+    ∷ record {
+      course = record { rows = row 1 1 2 ∷ []; clock = 0; firsts = 0 ∷ []; slots = 1 ∷ [] };
+      answer = record { clock = 1; went = 0 ∷ []; readings = Never ∷ []; ages = none ∷ []; lefts = 1 ∷ []; skips = 0 ∷ [] };
+    }
+    ∷ record {
+      course = record { rows = row 1 1 2 ∷ []; clock = 0; firsts = 0 ∷ []; slots = 1 ∷ 1 ∷ [] };
+      answer = record { clock = 2; went = 0 ∷ 0 ∷ []; readings = Never ∷ []; ages = none ∷ []; lefts = 1 ∷ []; skips = 1 ∷ [] };
+    }
+    ∷ record {
+      course = record { rows = row 1 1 2 ∷ []; clock = 0; firsts = 0 ∷ []; slots = 1 ∷ 1 ∷ 1 ∷ [] };
+      answer = record { clock = 3; went = 0 ∷ 0 ∷ 0 ∷ []; readings = Never ∷ []; ages = none ∷ []; lefts = 1 ∷ []; skips = 2 ∷ [] };
+    }
+    -- at instant 4 the stored value is stale and nothing is left over; at 5 it is fresh, age 1
+    ∷ record {
+      course = record { rows = row 1 1 2 ∷ []; clock = 0; firsts = 0 ∷ []; slots = 1 ∷ 1 ∷ 1 ∷ 0 ∷ [] };
+      answer = record { clock = 4; went = 0 ∷ 0 ∷ 0 ∷ 1 ∷ []; readings = Stale ∷ []; ages = some 4 ∷ []; lefts = 0 ∷ []; skips = 3 ∷ [] };
+    }
+    ∷ record {
+      course = record { rows = row 1 1 2 ∷ []; clock = 0; firsts = 0 ∷ []; slots = 1 ∷ 1 ∷ 1 ∷ 0 ∷ 0 ∷ [] };
+      answer = record { clock = 5; went = 0 ∷ 0 ∷ 0 ∷ 1 ∷ 1 ∷ []; readings = Fresh 1 ∷ []; ages = some 1 ∷ []; lefts = 0 ∷ []; skips = 3 ∷ [] };
+    }
+    -- (1,4) started at clock 4,294,967,295, first release 0: after one slot, clock 0, fresh, age 1
+    ∷ record {
+      course = record { rows = row 1 1 4 ∷ []; clock = 4294967295; firsts = 0 ∷ []; slots = 0 ∷ [] };
+      answer = record { clock = 0; went = 1 ∷ []; readings = Fresh 1 ∷ []; ages = some 1 ∷ []; lefts = 0 ∷ []; skips = 0 ∷ [] };
+    }
+    ∷ []
+
+pub right : map (λ (c : Case). seen (c .course)) table ≡ map (λ (c : Case). c .answer) table
+unfolding releasedOf servedOf serveFirst agedOf slotOf slotsOf advancedOf readFrom readingOf acceptable rowOk rowNone every notIn distinct history
+right = refl
+
+-- ── Demand 3 put to use ──
+
+abbrev none-stolen : ℕ → Bool
+none-stolen t = false
+
+abbrev figure-2-run : ℕ → Run
+figure-2-run = runOf (tableOf figure-2) 4294967290 (2 ∷ 1 ∷ 0 ∷ []) none-stolen
+
+-- instant 6 has nothing left over, though no slot was idle
+figure-2-rests : NothingLeft (figure-2-run 6)
+unfolding runAfter releasedOf servedOf serveFirst agedOf slotOf
+figure-2-rests zero h = refl
+figure-2-rests (suc zero) h = refl
+figure-2-rests (suc (suc zero)) h = refl
+figure-2-rests (suc (suc (suc i))) h = absurd (omega arith)
+
+-- so from instant 18 on the third object is fresh for ever, with an age below 12, across the wrap of the clock
+pub figure-2-fresh : (t : ℕ) → 18 ≤ t → (age : ℕ) × (readingOf (figure-2-run t) 3 ≡ Fresh age) × (age < 12)
+figure-2-fresh t h =
+    demand-3-fresh (tableOf figure-2) 4294967290 (2 ∷ 1 ∷ 0 ∷ []) refl (omega arith) none-stolen 2
+    (record { plan = record { id = 3; cost = 2; validity = 12; deadline = 6; period = 6 }; first = 0 }) refl 6 t figure-2-rests (λ u x y. refl) t h (omega arith)

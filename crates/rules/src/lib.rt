@@ -6,7 +6,10 @@ ghost use Rattle.rules.specs.Refusals.{numberOf};
 ghost use Rattle.rules.specs.StoredTable.{noTable, inRange, tableVerdict, recordsVerdict};
 ghost use Rattle.rules.specs.Deadlines.{noPlan};
 
+// The structs marked `repr(C)` are laid out as C lays them out, so that the C library hands them over as they are.
+
 // An object row: what the owner of an object says of it.
+#[repr(C)]
 pub struct ObjectRow {
     pub id: u16,
     pub cost: u32,
@@ -14,12 +17,14 @@ pub struct ObjectRow {
 }
 
 // A table: `count` object rows, and rows of zeros beyond them.
+#[repr(C)]
 pub struct Table {
     pub count: usize,
     pub rows: [ObjectRow; 64],
 }
 
 // An object row with the deadline and the period that the planner gave it.
+#[repr(C)]
 pub struct PlanRow {
     pub id: u16,
     pub cost: u32,
@@ -29,6 +34,7 @@ pub struct PlanRow {
 }
 
 // A plan: `count` rows in priority order, and rows of zeros beyond them.
+#[repr(C)]
 pub struct Plan {
     pub count: usize,
     pub rows: [PlanRow; 64],

@@ -1,0 +1,56 @@
+-- `channelfox::channelfox_advance` meets its contract. Assumes nothing.
+use borrow.Author.Needs.{needs}
+use mathlib.Core.Path.{sym, _∙_}
+use borrow.Author.Tests.{not-true, not-false}
+use Rattle.channelfox.specs.Forms.{advanceForm}
+use Rattle.channelfox.proofs.channelfox_advance.Statement.{statement}
+use Rattle.channelfox.proofs.channelfox_advance.Tie as tie
+use Rattle.channelfox.proofs.channelfox_advance.Reads as reads
+use Rattle.channelfox.proofs.channelfox_advance.Lts as lts
+use Rattle.channelfox.proofs.forms.all_forms.Reads as all-forms-reads
+use Rattle.channelfox.proofs.forms.run_of.Reads as run-of-reads
+use Rattle.channelfox.proofs.no_form.Reads as no-form-reads
+use Rattle.channelfox.proofs.stepped_form.Reads as stepped-form-reads
+use Rattle.running.proofs.advance.Reads as advance-reads
+
+-- src/lib.rt:232:9
+all-forms-requires : tie.Need-all-forms-requires
+all-forms-requires c κs = search needs
+
+-- src/lib.rt:233:9
+no-form-requires : tie.Need-no-form-requires
+no-form-requires c κs = search needs
+
+-- src/lib.rt:233:9
+returns : tie.Need-returns
+unfolding advanceForm
+returns c = c .no-form .ensures ∙ rw (sym (c .before .before .all-forms .ensures) ∙ not-true _ (c .before .if1 .taken))
+
+-- src/lib.rt:235:35
+run-of-requires : tie.Need-run-of-requires
+run-of-requires c κs = search needs
+
+-- src/lib.rt:235:18
+advance-requires : tie.Need-advance-requires
+advance-requires c κs = search needs
+
+-- src/lib.rt:235:5
+stepped-form-requires : tie.Need-stepped-form-requires
+stepped-form-requires c κs = search needs
+
+-- src/lib.rt:228:1
+returns-2 : tie.Need-returns-2
+unfolding advanceForm
+returns-2 c = c .stepped-form .ensures ∙ rw (sym (c .before .before .before .before .all-forms .ensures) ∙ not-false _ (c .before .before .before .if1 .left), c .before .advance .ensures, c .before .before .run-of .ensures)
+
+pub channelfox-advance-spec : {M : Type 1} → statement M
+channelfox-advance-spec =
+    tie.close
+    (tie.spec
+    all-forms-requires
+    no-form-requires
+    returns
+    run-of-requires
+    advance-requires
+    stepped-form-requires
+    returns-2)

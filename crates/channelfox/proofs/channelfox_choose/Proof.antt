@@ -1,0 +1,23 @@
+-- `channelfox::channelfox_choose` meets its contract. Assumes nothing.
+use borrow.Author.Needs.{needs}
+use mathlib.Core.Path.{_≡_}
+use Rattle.channelfox.proofs.channelfox_choose.Statement.{statement}
+use Rattle.channelfox.proofs.channelfox_choose.Tie as tie
+use Rattle.channelfox.proofs.channelfox_choose.Reads as reads
+use Rattle.channelfox.proofs.channelfox_choose.Lts as lts
+use Rattle.tables.proofs.chosen_part.Reads as chosen-part-reads
+
+-- src/lib.rt:167:9
+chosen-part-requires : tie.Need-chosen-part-requires
+chosen-part-requires c κs = search needs
+
+-- src/lib.rt:163:1
+returns : tie.Need-returns
+returns c = rw (← c .before .chosen-part .ensures, c .if1 .taken)
+
+-- src/lib.rt:163:1
+returns-2 : tie.Need-returns-2
+returns-2 c = rw (← c .before .chosen-part .ensures, c .if1 .left)
+
+pub channelfox-choose-spec : {M : Type 1} → statement M
+channelfox-choose-spec = tie.close (tie.spec chosen-part-requires returns returns-2)

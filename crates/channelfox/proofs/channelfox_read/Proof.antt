@@ -1,0 +1,24 @@
+-- `channelfox::channelfox_read` meets its contract. Assumes nothing.
+use mathlib.Core.Path.{_∙_}
+use borrow.Author.Needs.{needs}
+use Rattle.channelfox.proofs.channelfox_read.Statement.{statement}
+use Rattle.channelfox.proofs.channelfox_read.Tie as tie
+use Rattle.channelfox.proofs.channelfox_read.Reads as reads
+use Rattle.channelfox.proofs.channelfox_read.Lts as lts
+use Rattle.channelfox.proofs.read_form.Reads as read-form-reads
+use Rattle.tables.proofs.read.Reads as read-reads
+
+-- src/lib.rt:153:15
+read-requires : tie.Need-read-requires
+read-requires c κs = search needs
+
+-- src/lib.rt:153:5
+read-form-requires : tie.Need-read-form-requires
+read-form-requires c κs = search needs
+
+-- src/lib.rt:149:1
+returns : tie.Need-returns
+returns c = c .read-form .ensures ∙ rw (c .before .read .ensures)
+
+pub channelfox-read-spec : {M : Type 1} → statement M
+channelfox-read-spec = tie.close (tie.spec read-requires read-form-requires returns)

@@ -1,0 +1,50 @@
+-- `channelfox::channelfox_read_value` meets its contract. Assumes nothing.
+use borrow.Author.Needs.{needs}
+use mathlib.Core.Path.{sym, _∙_}
+use borrow.Author.Tests.{not-true, not-false}
+use Rattle.channelfox.specs.Forms.{readValueForm}
+use Rattle.channelfox.proofs.channelfox_read_value.Statement.{statement}
+use Rattle.channelfox.proofs.channelfox_read_value.Tie as tie
+use Rattle.channelfox.proofs.channelfox_read_value.Reads as reads
+use Rattle.channelfox.proofs.channelfox_read_value.Lts as lts
+use Rattle.channelfox.proofs.forms.all_forms.Reads as all-forms-reads
+use Rattle.channelfox.proofs.forms.run_of.Reads as run-of-reads
+use Rattle.channelfox.proofs.reading_form.Reads as reading-form-reads
+use Rattle.running.proofs.read_value.Reads as read-value-reads
+
+-- src/lib.rt:281:9
+all-forms-requires : tie.Need-all-forms-requires
+all-forms-requires c κs = search needs
+
+-- src/lib.rt:282:9
+returns : tie.Need-returns
+unfolding readValueForm
+returns c = rw (sym (c .before .all-forms .ensures) ∙ not-true _ (c .if1 .taken))
+
+-- src/lib.rt:291:38
+run-of-requires : tie.Need-run-of-requires
+run-of-requires c κs = search needs
+
+-- src/lib.rt:291:18
+read-value-requires : tie.Need-read-value-requires
+read-value-requires c κs = search needs
+
+-- src/lib.rt:291:5
+reading-form-requires : tie.Need-reading-form-requires
+reading-form-requires c κs = search needs
+
+-- src/lib.rt:277:1
+returns-2 : tie.Need-returns-2
+unfolding readValueForm
+returns-2 c = c .reading-form .ensures ∙ rw (sym (c .before .before .before .before .all-forms .ensures) ∙ not-false _ (c .before .before .before .if1 .left), c .before .read-value .ensures, c .before .before .run-of .ensures)
+
+pub channelfox-read-value-spec : {M : Type 1} → statement M
+channelfox-read-value-spec =
+    tie.close
+    (tie.spec
+    all-forms-requires
+    returns
+    run-of-requires
+    read-value-requires
+    reading-form-requires
+    returns-2)

@@ -1,0 +1,24 @@
+-- `channelfox::channelfox_start` meets its contract. Assumes nothing.
+use borrow.Author.Needs.{needs}
+use mathlib.Core.Path.{_∙_}
+use Rattle.channelfox.proofs.channelfox_start.Statement.{statement}
+use Rattle.channelfox.proofs.channelfox_start.Tie as tie
+use Rattle.channelfox.proofs.channelfox_start.Reads as reads
+use Rattle.channelfox.proofs.channelfox_start.Lts as lts
+use Rattle.channelfox.proofs.started_form.Reads as started-form-reads
+use Rattle.running.proofs.start.Reads as start-reads
+
+-- src/lib.rt:206:18
+start-requires : tie.Need-start-requires
+start-requires c κs = search needs
+
+-- src/lib.rt:206:5
+started-form-requires : tie.Need-started-form-requires
+started-form-requires c κs = search needs
+
+-- src/lib.rt:202:1
+returns : tie.Need-returns
+returns c = c .started-form .ensures ∙ rw (c .before .start .ensures)
+
+pub channelfox-start-spec : {M : Type 1} → statement M
+channelfox-start-spec = tie.close (tie.spec start-requires started-form-requires returns)

@@ -1,0 +1,31 @@
+-- `channelfox::forms::row_form` meets its contract. Assumes nothing.
+use borrow.Author.Needs.{needs}
+use Rattle.channelfox.specs.Forms.{rowForm}
+use Rattle.channelfox.proofs.forms.row_form.Statement.{statement}
+use Rattle.channelfox.proofs.forms.row_form.Tie as tie
+use Rattle.channelfox.proofs.forms.row_form.Reads as reads
+use Rattle.channelfox.proofs.forms.row_form.Lts as lts
+use Rattle.channelfox.proofs.forms.mark.Reads as mark-reads
+use Rattle.channelfox.proofs.forms.stored_held.Reads as stored-held-reads
+use Rattle.channelfox.proofs.forms.stored_kind.Reads as stored-kind-reads
+
+-- src/forms.rt:79:17
+mark-requires : tie.Need-mark-requires
+mark-requires c κs = search needs
+
+-- src/forms.rt:80:17
+stored-kind-requires : tie.Need-stored-kind-requires
+stored-kind-requires c κs = search needs
+
+-- src/forms.rt:81:15
+stored-held-requires : tie.Need-stored-held-requires
+stored-held-requires c κs = search needs
+
+-- src/forms.rt:69:1
+returns : tie.Need-returns
+unfolding rowForm
+returns c = rw (c .stored-held .ensures, c .before .stored-kind .ensures, c .before .before .mark .ensures)
+
+pub row-form-spec : {M : Type 1} → statement M
+row-form-spec =
+    tie.close (tie.spec mark-requires stored-kind-requires stored-held-requires returns)

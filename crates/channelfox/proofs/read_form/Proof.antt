@@ -1,0 +1,18 @@
+-- `channelfox::read_form` meets its contract. Assumes nothing.
+use borrow.Author.Needs.{needs}
+use Rattle.channelfox.proofs.read_form.Statement.{statement}
+use Rattle.channelfox.proofs.read_form.Tie as tie
+use Rattle.channelfox.proofs.read_form.Reads as reads
+use Rattle.channelfox.proofs.read_form.Lts as lts
+use Rattle.channelfox.proofs.forms.verdict_form.Reads as verdict-form-reads
+
+-- src/lib.rt:96:18
+verdict-form-requires : tie.Need-verdict-form-requires
+verdict-form-requires c κs = search needs
+
+-- src/lib.rt:90:1
+returns : tie.Need-returns
+returns c = rw (c .verdict-form .ensures)
+
+pub read-form-spec : {M : Type 1} → statement M
+read-form-spec = tie.close (tie.spec verdict-form-requires returns)

@@ -1,0 +1,23 @@
+-- `channelfox::stepped_form` meets its contract. Assumes nothing.
+use borrow.Author.Needs.{needs}
+use Rattle.channelfox.proofs.stepped_form.Statement.{statement}
+use Rattle.channelfox.proofs.stepped_form.Tie as tie
+use Rattle.channelfox.proofs.stepped_form.Reads as reads
+use Rattle.channelfox.proofs.stepped_form.Lts as lts
+use Rattle.channelfox.proofs.forms.run_form.Reads as run-form-reads
+use Rattle.channelfox.proofs.forms.verdict_form.Reads as verdict-form-reads
+
+-- src/lib.rt:129:18
+verdict-form-requires : tie.Need-verdict-form-requires
+verdict-form-requires c κs = search needs
+
+-- src/lib.rt:130:14
+run-form-requires : tie.Need-run-form-requires
+run-form-requires c κs = search needs
+
+-- src/lib.rt:123:1
+returns : tie.Need-returns
+returns c = rw (c .run-form .ensures, c .before .verdict-form .ensures)
+
+pub stepped-form-spec : {M : Type 1} → statement M
+stepped-form-spec = tie.close (tie.spec verdict-form-requires run-form-requires returns)

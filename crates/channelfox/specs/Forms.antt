@@ -1,0 +1,116 @@
+-- The C forms of answers and runs, and that the way there and back loses nothing. Assumes nothing.
+-- Enums and bools are numbers in C: a verdict is number and place (0 and 0 where accepted), a stored value its kind and what it holds.
+use Prim.Native.Nat.{ℕ, zero, suc, _≤_}
+use mathlib.Core.Path.{_≡_, refl, sym, ap, ap₂, _∙_}
+use mathlib.Core.Bool.{Bool, true, false, cond, not, _&&_, _||_}
+use mathlib.Core.List.{List, [], _∷_, map}
+use lib.Dec.{eqb, leb}
+use Rattle.rules.specs.declared.Part.{Part}
+use Rattle.rules.specs.declared.PlanRow.{PlanRow}
+use Rattle.rules.specs.declared.Planned.{Planned}
+use Rattle.rules.specs.declared.ReadTable.{ReadTable}
+use Rattle.rules.specs.declared.Reading.{Reading}
+use Rattle.rules.specs.declared.Reading.the-variants as reading
+use Rattle.rules.specs.declared.Run.{Run}
+use Rattle.rules.specs.declared.RunRow.{RunRow}
+use Rattle.rules.specs.declared.Started.{Started}
+use Rattle.rules.specs.declared.Stepped.{Stepped}
+use Rattle.rules.specs.declared.Stored.{Stored}
+use Rattle.rules.specs.declared.Stored.the-variants.{Empty, Held, Lapsed}
+use Rattle.rules.specs.declared.Verdict.{Verdict}
+use Rattle.rules.specs.declared.Verdict.the-variants.{Accepted, Refused}
+use Rattle.rules.specs.Refusals.{numberOf}
+use Rattle.rules.specs.Deadlines.{noPlan, onAccepted, planOf}
+use Rattle.rules.specs.Run.{steppedOf, advancedOf, readingOf}
+use Rattle.channelfox.specs.declared.CPart.{CPart}
+use Rattle.channelfox.specs.declared.CPlanAnswer.{CPlanAnswer}
+use Rattle.channelfox.specs.declared.CReadAnswer.{CReadAnswer}
+use Rattle.channelfox.specs.declared.CReading.{CReading}
+use Rattle.channelfox.specs.declared.CRun.{CRun}
+use Rattle.channelfox.specs.declared.CRunAnswer.{CRunAnswer}
+use Rattle.channelfox.specs.declared.CRunRow.{CRunRow}
+use Rattle.channelfox.specs.declared.CVerdict.{CVerdict}
+
+-- ── Verdicts, tables, plans ──
+
+abbrev pub verdictForm : Verdict → CVerdict
+verdictForm Accepted = record { number = 0; place = 0 }
+verdictForm (Refused r k) = record { number = numberOf r; place = k }
+
+abbrev pub readForm : ReadTable → CReadAnswer
+readForm a = record { verdict = verdictForm (a .verdict); table = a .table }
+
+abbrev pub planForm : Planned → CPlanAnswer
+planForm p = record { verdict = verdictForm (p .verdict); plan = p .plan }
+
+-- a stored table that is read is planned, and one that is refused is refused
+abbrev pub plannedStored : ReadTable → Planned
+plannedStored a = onAccepted (a .verdict) (planOf (a .table))
+
+abbrev pub partForm : Part → CPart
+partForm p = record { source = cond (p .site) 1 2; start = p .start; length = p .length }
+
+-- ── Runs ──
+
+abbrev pub storedKind : Stored → ℕ
+storedKind Empty = 0
+storedKind (Held s) = 1
+storedKind Lapsed = 2
+
+abbrev pub storedHeld : Stored → ℕ
+storedHeld Empty = 0
+storedHeld (Held s) = s
+storedHeld Lapsed = 0
+
+abbrev pub storedOf : ℕ → ℕ → Stored
+storedOf kind held = cond (eqb kind 1) (Held held) (cond (eqb kind 2) Lapsed Empty)
+
+unfoldable pub rowForm : RunRow → CRunRow
+rowForm r =
+    record { planned = r .planned; next = r .next; left = r .left; sample = r .sample; lapsed = cond (r .lapsed) 1 0; stored = storedKind (r .stored); held = storedHeld (r .stored); skips = r .skips }
+
+unfoldable pub rowOf : CRunRow → RunRow
+rowOf c =
+    record { planned = c .planned; next = c .next; left = c .left; sample = c .sample; lapsed = not (eqb (c .lapsed) 0); stored = storedOf (c .stored) (c .held); skips = c .skips }
+
+-- whether a C row stands for a row: `lapsed` 0 or 1, `stored` 0 to 2, and `held` 0 unless a value is held
+unfoldable pub isForm : CRunRow → Bool
+isForm c = leb (c .lapsed) 1 && leb (c .stored) 2 && (eqb (c .held) 0 || eqb (c .stored) 1)
+
+abbrev pub runForm : Run → CRun
+runForm run = record { clock = run .clock; count = run .count; rows = map rowForm (run .rows) }
+
+abbrev pub runOf : CRun → Run
+runOf form = record { clock = form .clock; count = form .count; rows = map rowOf (form .rows) }
+
+unfoldable pub everyForm : List CRunRow → Bool
+everyForm [] = true
+everyForm (c ∷ cs) = isForm c && everyForm cs
+
+abbrev pub allForms : CRun → Bool
+allForms form = everyForm (form .rows)
+
+abbrev pub startedForm : Started → CRunAnswer
+startedForm s = record { verdict = verdictForm (s .verdict); run = runForm (s .run) }
+
+abbrev pub steppedForm : Stepped → CRunAnswer
+steppedForm s = record { verdict = verdictForm (s .verdict); run = runForm (s .run) }
+
+-- 13, and the run exactly as it came in
+abbrev pub noForm : CRun → CRunAnswer
+noForm form = record { verdict = record { number = 13; place = 0 }; run = form }
+
+unfoldable pub slotForm : CRun → Bool → CRunAnswer
+slotForm form stolen = cond (allForms form) (steppedForm (steppedOf (runOf form) stolen)) (noForm form)
+
+unfoldable pub advanceForm : CRun → List ℕ → CRunAnswer
+advanceForm form stolen = cond (allForms form) (steppedForm (advancedOf (runOf form) stolen)) (noForm form)
+
+abbrev pub readingForm : Reading → CReading
+readingForm reading.Never = record { verdict = record { number = 0; place = 0 }; value = 0; age = 0 }
+readingForm reading.Stale = record { verdict = record { number = 0; place = 0 }; value = 1; age = 0 }
+readingForm (reading.Fresh a) = record { verdict = record { number = 0; place = 0 }; value = 2; age = a }
+readingForm (reading.Refused r k) = record { verdict = record { number = numberOf r; place = k }; value = 0; age = 0 }
+
+unfoldable pub readValueForm : CRun → ℕ → CReading
+readValueForm form id = cond (allForms form) (readingForm (readingOf (runOf form) id)) (record { verdict = record { number = 13; place = 0 }; value = 0; age = 0 })

@@ -1,0 +1,292 @@
+// The C library: exported functions on numbers, byte slices and structs of numbers; include/channelfox.h is their C side.
+// Each hands what it gets to a function of the libraries below and turns the answer into its C form. No export has a `requires`.
+mod forms;
+
+ghost use mathlib.Core.Path.{_≡_};
+ghost use Rattle.rules.specs.StoredTable.{readOf, doorOf, chosenPart};
+ghost use Rattle.rules.specs.Deadlines.{planOf};
+ghost use Rattle.rules.specs.Run.{startOf};
+ghost use Rattle.channelfox.specs.Forms.{readForm, planForm, startedForm, steppedForm, plannedStored, noForm, slotForm, advanceForm, readingForm, readValueForm, partForm};
+use forms::all_forms;
+use forms::run_form;
+use forms::run_of;
+use forms::verdict_form;
+use rules::ObjectRow;
+use rules::Plan;
+use rules::PlanRow;
+use rules::Planned;
+use rules::ReadTable;
+use rules::Reading;
+use rules::Refusal;
+use rules::Run;
+use rules::Started;
+use rules::Stepped;
+use rules::Table;
+use rules::Verdict;
+
+// A verdict: number 0 and place 0, or the refusal.
+#[repr(C)]
+pub struct CVerdict {
+    pub number: u8,
+    pub place: usize,
+}
+
+// A run row: `lapsed` 0 or 1; `stored` 0 none, 1 held, 2 lapsed; `held` the sample instant of a held value, otherwise 0.
+#[repr(C)]
+pub struct CRunRow {
+    pub planned: PlanRow,
+    pub next: u32,
+    pub left: u32,
+    pub sample: u32,
+    pub lapsed: u32,
+    pub stored: u32,
+    pub held: u32,
+    pub skips: u32,
+}
+
+#[repr(C)]
+pub struct CRun {
+    pub clock: u32,
+    pub count: usize,
+    pub rows: [CRunRow; 64],
+}
+
+#[repr(C)]
+pub struct CReadAnswer {
+    pub verdict: CVerdict,
+    pub table: Table,
+}
+
+#[repr(C)]
+pub struct CPlanAnswer {
+    pub verdict: CVerdict,
+    pub plan: Plan,
+}
+
+#[repr(C)]
+pub struct CRunAnswer {
+    pub verdict: CVerdict,
+    pub run: CRun,
+}
+
+// A reading: `value` 0 none, 1 stale, 2 fresh with its age; 0 and 0 where refused.
+#[repr(C)]
+pub struct CReading {
+    pub verdict: CVerdict,
+    pub value: u32,
+    pub age: u32,
+}
+
+// The chosen part: `source` 1 of the site bytes, 2 of the factory bytes.
+#[repr(C)]
+pub struct CPart {
+    pub source: u32,
+    pub start: usize,
+    pub length: usize,
+}
+
+// ── Answers in their C form ──
+
+fn read_form(answer: ReadTable) -> CReadAnswer
+    ensures { λ r. ⌜ r ≡ readForm answer ⌝ }
+{
+    let verdict = answer.verdict;
+    let table = answer.table;
+    CReadAnswer {
+        verdict: verdict_form(verdict),
+        table,
+    }
+}
+
+fn plan_form(planned: Planned) -> CPlanAnswer
+    ensures { λ r. ⌜ r ≡ planForm planned ⌝ }
+{
+    let verdict = planned.verdict;
+    let plan = planned.plan;
+    CPlanAnswer {
+        verdict: verdict_form(verdict),
+        plan,
+    }
+}
+
+fn started_form(started: Started) -> CRunAnswer
+    ensures { λ r. ⌜ r ≡ startedForm started ⌝ }
+{
+    let verdict = started.verdict;
+    let run = started.run;
+    CRunAnswer {
+        verdict: verdict_form(verdict),
+        run: run_form(run),
+    }
+}
+
+fn stepped_form(stepped: Stepped) -> CRunAnswer
+    ensures { λ r. ⌜ r ≡ steppedForm stepped ⌝ }
+{
+    let verdict = stepped.verdict;
+    let run = stepped.run;
+    CRunAnswer {
+        verdict: verdict_form(verdict),
+        run: run_form(run),
+    }
+}
+
+// What is no run state even in form goes back as it came in.
+fn no_form(run: CRun) -> CRunAnswer
+    ensures { λ r. ⌜ r ≡ noForm run ⌝ }
+{
+    CRunAnswer {
+        verdict: CVerdict {
+            number: 13,
+            place: 0,
+        },
+        run,
+    }
+}
+
+// ── Tables and plans ──
+
+#[no_mangle]
+pub extern "C" fn channelfox_read(bytes: &[u8]) -> CReadAnswer
+    ensures { λ r. ⌜ r ≡ readForm (readOf (now (bytes .entry))) ⌝ }
+{
+    read_form(tables::read(bytes))
+}
+
+#[no_mangle]
+pub extern "C" fn channelfox_rows(rows: &[ObjectRow]) -> CReadAnswer
+    ensures { λ r. ⌜ r ≡ readForm (doorOf (now (rows .entry))) ⌝ }
+{
+    read_form(tables::read_rows(rows))
+}
+
+#[no_mangle]
+pub extern "C" fn channelfox_choose(site: &[u8], factory: &[u8]) -> CPart
+    ensures { λ r. ⌜ r ≡ partForm (chosenPart (now (site .entry)) (now (factory .entry))) ⌝ }
+{
+    let part = tables::chosen_part(site, factory);
+    let source = if part.site { 1u32 } else { 2u32 };
+    CPart {
+        source,
+        start: part.start,
+        length: part.length,
+    }
+}
+
+#[no_mangle]
+pub extern "C" fn channelfox_plan_table(table: Table) -> CPlanAnswer
+    ensures { λ r. ⌜ r ≡ planForm (planOf table) ⌝ }
+{
+    plan_form(planning::plan_table(table))
+}
+
+// A refused read is a refused plan; the empty table of a refused read is not planned.
+#[no_mangle]
+pub extern "C" fn channelfox_plan_stored(bytes: &[u8]) -> CPlanAnswer
+    ensures { λ r. ⌜ r ≡ planForm (plannedStored (readOf (now (bytes .entry)))) ⌝ }
+{
+    let answer = tables::read(bytes);
+    let verdict = answer.verdict;
+    let table = answer.table;
+    match verdict {
+        Verdict::Accepted => plan_form(planning::plan_table(table)),
+        Verdict::Refused(_, _) => plan_form(Planned {
+            verdict,
+            plan: rules::empty_plan(),
+        }),
+    }
+}
+
+// ── Runs ──
+
+#[no_mangle]
+pub extern "C" fn channelfox_start(table: Table, clock: u32, firsts: &[u32]) -> CRunAnswer
+    ensures { λ r. ⌜ r ≡ startedForm (startOf table clock (now (firsts .entry))) ⌝ }
+{
+    started_form(running::start(table, clock, firsts))
+}
+
+// One slot by value, for the one in place.
+fn slot_by_value(run: CRun, stolen: bool) -> CRunAnswer
+    ensures { λ r. ⌜ r ≡ slotForm run stolen ⌝ }
+{
+    if !all_forms(run) {
+        return no_form(run);
+    }
+    stepped_form(running::slot(run_of(run), stolen))
+}
+
+#[no_mangle]
+pub extern "C" fn channelfox_slot(run: &mut CRun, stolen: bool) -> CVerdict
+    ensures { λ r. ⌜ (now (run .exit) ≡ slotForm (now (run .entry)) stolen .run) × (r ≡ slotForm (now (run .entry)) stolen .verdict) ⌝ }
+{
+    let s = slot_by_value(*run, stolen);
+    *run = s.run;
+    s.verdict
+}
+
+#[no_mangle]
+pub extern "C" fn channelfox_advance(run: CRun, stolen: &[u8]) -> CRunAnswer
+    ensures { λ r. ⌜ r ≡ advanceForm run (now (stolen .entry)) ⌝ }
+{
+    if !all_forms(run) {
+        return no_form(run);
+    }
+    stepped_form(running::advance(run_of(run), stolen))
+}
+
+fn reading_form(reading: Reading) -> CReading
+    ensures { λ r. ⌜ r ≡ readingForm reading ⌝ }
+{
+    match reading {
+        Reading::Never => CReading {
+            verdict: CVerdict {
+                number: 0,
+                place: 0,
+            },
+            value: 0,
+            age: 0,
+        },
+        Reading::Stale => CReading {
+            verdict: CVerdict {
+                number: 0,
+                place: 0,
+            },
+            value: 1,
+            age: 0,
+        },
+        Reading::Fresh(age) => CReading {
+            verdict: CVerdict {
+                number: 0,
+                place: 0,
+            },
+            value: 2,
+            age,
+        },
+        Reading::Refused(refusal, place) => CReading {
+            verdict: CVerdict {
+                number: rules::refusal_number(refusal),
+                place,
+            },
+            value: 0,
+            age: 0,
+        },
+    }
+}
+
+#[no_mangle]
+pub extern "C" fn channelfox_read_value(run: CRun, id: u16) -> CReading
+    ensures { λ r. ⌜ r ≡ readValueForm run id ⌝ }
+{
+    if !all_forms(run) {
+        return CReading {
+            verdict: CVerdict {
+                number: 13,
+                place: 0,
+            },
+            value: 0,
+            age: 0,
+        };
+    }
+    reading_form(running::read_value(run_of(run), id))
+}

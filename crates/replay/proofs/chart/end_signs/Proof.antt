@@ -1,0 +1,63 @@
+-- `replay::chart::end_signs` stays within the line and ends. Assumes nothing.
+use Prim.Native.Nat.{_≤_, _-_}
+use borrow.Author.Needs.{needs}
+use Rattle.replay.proofs.chart.end_signs.Statement.{statement}
+use Rattle.replay.proofs.chart.end_signs.Tie as tie
+use Rattle.replay.proofs.chart.end_signs.Reads as reads
+use Rattle.replay.proofs.chart.end_signs.Lts as lts
+use Rattle.replay.proofs.chart.sign_at.Reads as sign-at-reads
+use Rattle.replay.proofs.line.end.Reads as end-reads
+use Rattle.replay.proofs.line.put.Reads as put-reads
+
+abbrev Inv-loop : tie.InvT-loop
+Inv-loop line₀ signs row width at₀ c₀ line at c = c ≤ 100
+
+abbrev μ-loop : tie.MeasureT-loop
+μ-loop line₀ signs row width at₀ c₀ line at c = 100 - c
+
+-- src/chart.rt:123:5
+loop-holds : tie.Need-loop-holds Inv-loop μ-loop
+loop-holds c = search needs
+
+-- src/chart.rt:125:32
+sign-at-requires : tie.Need-sign-at-requires Inv-loop μ-loop
+sign-at-requires c κs = search needs
+
+-- src/chart.rt:125:13
+put-requires : tie.Need-put-requires Inv-loop μ-loop
+put-requires c κs = search needs
+
+-- src/chart.rt:123:9
+add-c : tie.Need-add-c Inv-loop μ-loop
+add-c c = search needs
+
+-- src/chart.rt:123:5
+loop-less : tie.Need-loop-less Inv-loop μ-loop
+loop-less c = search needs
+
+-- src/chart.rt:123:5
+loop-again : tie.Need-loop-again Inv-loop μ-loop
+loop-again c = search needs
+
+-- src/chart.rt:128:5
+end-requires : tie.Need-end-requires Inv-loop μ-loop
+end-requires c κs = search needs
+
+-- src/chart.rt:121:1
+returns : tie.Need-returns Inv-loop μ-loop
+returns c = search needs
+
+pub end-signs-spec : {M : Type 1} → statement M
+end-signs-spec =
+    tie.close
+    (tie.spec
+    Inv-loop
+    μ-loop
+    loop-holds
+    sign-at-requires
+    put-requires
+    add-c
+    loop-less
+    loop-again
+    end-requires
+    returns)

@@ -1,0 +1,29 @@
+-- `replay::line::write` stays within the bytes. Assumes nothing.
+use mathlib.Core.Path.{sym}
+use native.Mathlib.Omega.{arith}
+use lib.Seq.{length-take-le}
+use borrow.Author.Needs.{needs}
+use Rattle.replay.proofs.line.write.Statement.{statement}
+use Rattle.replay.proofs.line.write.Tie as tie
+use Rattle.replay.proofs.line.write.Reads as reads
+use Rattle.replay.proofs.line.write.Lts as lts
+use Rattle.printing.proofs.text.Reads as text-reads
+
+-- src/line.rt:53:24
+slice-aggregate-text : tie.Need-slice-aggregate-text
+slice-aggregate-text c = sym (length-take-le (c .before .before .before .args .to) (c .before .before .before .args .bytes .now) (omega arith))
+
+-- src/line.rt:53:9
+text-requires : tie.Need-text-requires
+text-requires c κs = search needs
+
+-- src/line.rt:51:1
+returns : tie.Need-returns
+returns c = search needs
+
+-- src/line.rt:51:1
+returns-2 : tie.Need-returns-2
+returns-2 c = search needs
+
+pub write-spec : {M : Type 1} → statement M
+write-spec = tie.close (tie.spec slice-aggregate-text text-requires returns returns-2)

@@ -1,0 +1,61 @@
+-- `replay::tallies::last_lacking` stays within the rows and ends. Assumes nothing.
+use Prim.Native.Nat.{_≤_, _-_}
+use borrow.Author.Needs.{needs}
+use Rattle.replay.proofs.tallies.last_lacking.Statement.{statement}
+use Rattle.replay.proofs.tallies.last_lacking.Tie as tie
+use Rattle.replay.proofs.tallies.last_lacking.Reads as reads
+use Rattle.replay.proofs.tallies.last_lacking.Lts as lts
+use Rattle.replay.proofs.tallies.larger.Reads as larger-reads
+
+abbrev Inv-loop : tie.InvT-loop
+Inv-loop count rows last₀ i₀ last i = i ≤ 64
+
+abbrev μ-loop : tie.MeasureT-loop
+μ-loop count rows last₀ i₀ last i = 64 - i
+
+-- src/tallies.rt:147:5
+loop-holds : tie.Need-loop-holds Inv-loop μ-loop
+loop-holds c = search needs
+
+-- src/tallies.rt:149:33
+mul-larger : tie.Need-mul-larger Inv-loop μ-loop
+mul-larger c = search needs
+
+-- src/tallies.rt:149:33
+element-copy-out-larger : tie.Need-element-copy-out-larger Inv-loop μ-loop
+element-copy-out-larger c = search needs
+
+-- src/tallies.rt:149:13
+larger-requires : tie.Need-larger-requires Inv-loop μ-loop
+larger-requires c κs = search needs
+
+-- src/tallies.rt:147:9
+add-i : tie.Need-add-i Inv-loop μ-loop
+add-i c = search needs
+
+-- src/tallies.rt:147:5
+loop-less : tie.Need-loop-less Inv-loop μ-loop
+loop-less c = search needs
+
+-- src/tallies.rt:147:5
+loop-again : tie.Need-loop-again Inv-loop μ-loop
+loop-again c = search needs
+
+-- src/tallies.rt:144:1
+returns : tie.Need-returns Inv-loop μ-loop
+returns c = search needs
+
+pub last-lacking-spec : {M : Type 1} → statement M
+last-lacking-spec =
+    tie.close
+    (tie.spec
+    Inv-loop
+    μ-loop
+    loop-holds
+    mul-larger
+    element-copy-out-larger
+    larger-requires
+    add-i
+    loop-less
+    loop-again
+    returns)

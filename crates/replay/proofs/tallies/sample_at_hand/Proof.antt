@@ -1,0 +1,25 @@
+-- `replay::tallies::sample_at_hand` is the sample that step 1 leaves in hand. Assumes nothing.
+use Rattle.rules.specs.Run.{releasedOf}
+use borrow.Author.Tests.{eq-eqb, ne-eqb}
+use Rattle.replay.proofs.tallies.sample_at_hand.Statement.{statement}
+use Rattle.replay.proofs.tallies.sample_at_hand.Tie as tie
+use Rattle.replay.proofs.tallies.sample_at_hand.Reads as reads
+use Rattle.replay.proofs.tallies.sample_at_hand.Lts as lts
+
+-- src/tallies.rt:52:13
+returns : tie.Need-returns
+unfolding releasedOf
+returns c = simp (eq-eqb _ _ (c .before .before .if1 .taken), eq-eqb _ _ (c .if2 .taken))
+
+-- src/tallies.rt:47:1
+returns-2 : tie.Need-returns-2
+unfolding releasedOf
+returns-2 c = simp (eq-eqb _ _ (c .before .before .if1 .taken), ne-eqb _ _ (c .if2 .left))
+
+-- src/tallies.rt:47:1
+returns-3 : tie.Need-returns-3
+unfolding releasedOf
+returns-3 c = simp (ne-eqb _ _ (c .if1 .left))
+
+pub sample-at-hand-spec : {M : Type 1} → statement M
+sample-at-hand-spec = tie.close (tie.spec returns returns-2 returns-3)

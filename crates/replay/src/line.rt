@@ -1,0 +1,73 @@
+// One line of output, made in a buffer and written as a whole. Each function answers where the next byte goes; what does
+// not fit is left out.
+
+// One byte.
+pub fn put(line: &mut [u8; 160], at: usize, byte: u8) -> usize {
+    if at < 160 {
+        line[at] = byte;
+        at + 1
+    } else {
+        at
+    }
+}
+
+// The bytes as they are.
+pub fn put_text(line: &mut [u8; 160], at: usize, text: &[u8]) -> usize {
+    let mut to = at;
+    for i in 0..text.len() {
+        to = put(line, to, text[i]);
+    }
+    to
+}
+
+// Blanks.
+pub fn put_blanks(line: &mut [u8; 160], at: usize, count: usize) -> usize {
+    let mut to = at;
+    for i in 0..count {
+        to = put(line, to, b' ');
+    }
+    to
+}
+
+// The number in decimal digits.
+pub fn put_number(line: &mut [u8; 160], at: usize, n: u64) -> usize {
+    let mut digits = [0u8; 20];
+    let k = io::decimal(n, &mut digits);
+    put_text(line, at, &digits[..k])
+}
+
+// The number at the right end of `width` columns.
+pub fn put_padded(line: &mut [u8; 160], at: usize, n: u64, width: usize) -> usize {
+    let mut digits = [0u8; 20];
+    let k = io::decimal(n, &mut digits);
+    let mut to = at;
+    if k < width {
+        to = put_blanks(line, at, width - k);
+    }
+    put_text(line, to, &digits[..k])
+}
+
+// The bytes before `to`.
+fn write(bytes: &[u8], to: usize) {
+    if to <= bytes.len() {
+        printing::text(&bytes[..to]);
+    }
+}
+
+// Where the blanks at the end of the first `at` bytes begin.
+fn trimmed(line: &[u8; 160], at: usize) -> usize {
+    let mut to = 0;
+    for i in 0..160usize {
+        if (i < at) & (line[i] != b' ') {
+            to = i + 1;
+        }
+    }
+    to
+}
+
+// Ends the line, with no blanks before its end, and writes it.
+pub fn end(line: &mut [u8; 160], at: usize) {
+    let last = trimmed(line, at);
+    let to = put(line, last, b'\n');
+    write(line, to);
+}

@@ -1,0 +1,75 @@
+// The run slot by slot: its chart and its tallies.
+use super::chart;
+use super::tallies;
+use super::tallies::Tallies;
+use rules::Run;
+
+// What is told of a run: its last state, the tallies, and how many slots were stolen.
+pub struct Told {
+    pub run: Run,
+    pub tallies: Tallies,
+    pub stolen: u32,
+}
+
+// Whether the slot at this place of the pattern is stolen.
+fn is_stolen(pattern: &[u8], at: usize) -> bool {
+    if at < pattern.len() {
+        pattern[at] == b'x'
+    } else {
+        false
+    }
+}
+
+// The place after `at` in a pattern of `length` signs, which begins again at its end.
+fn place_after(at: usize, length: usize) -> usize {
+    if at < length {
+        if at + 1 < length {
+            return at + 1;
+        }
+    }
+    0
+}
+
+// One more where the slot is stolen.
+fn counted(stolen: u32, taken: bool) -> u32 {
+    if taken {
+        std::num::wrapping_add_u32(stolen, 1)
+    } else {
+        stolen
+    }
+}
+
+// Runs the slots, one at a time, and draws the last ones.
+pub fn run_through(
+    run: Run,
+    slots: usize,
+    pattern: &[u8],
+    jobs: &mut [u8; 6400],
+    values: &mut [u8; 6400],
+    marks: &mut [u8; 100],
+) -> Told {
+    let first = chart::first_drawn(slots);
+    let mut now = run;
+    let mut all = tallies::no_tallies();
+    let mut stolen = 0;
+    let mut at = 0;
+    for k in 0..slots {
+        let taken = is_stolen(pattern, at);
+        let stepped = running::slot(now, taken);
+        let after = stepped.run;
+        if first <= k {
+            chart::mark(marks, k - first, taken);
+            chart::draw(jobs, values, k - first, now, after);
+        }
+        let more = tallies::tallied(all, now, after);
+        all = more;
+        now = after;
+        stolen = counted(stolen, taken);
+        at = place_after(at, pattern.len());
+    }
+    Told {
+        run: now,
+        tallies: all,
+        stolen,
+    }
+}

@@ -1,0 +1,110 @@
+// The lines above and below the chart: what was run, and what became of each object.
+use super::line::end;
+use super::line::put;
+use super::line::put_blanks;
+use super::line::put_padded;
+use super::tallies;
+use super::tallies::Tallies;
+use super::tallies::Tally;
+use rules::PlanRow;
+use rules::Run;
+use rules::RunRow;
+
+// "objects N, slots S, stolen T".
+pub fn print_header(run: Run, slots: usize, stolen: u32) {
+    printing::text(b"objects ");
+    printing::number(run.count as u64);
+    printing::text(b", slots ");
+    printing::number(slots as u64);
+    printing::text(b", stolen ");
+    printing::number(stolen as u64);
+    printing::text(b"\n");
+}
+
+// The planned numbers of an object.
+fn put_planned(line: &mut [u8; 160], row: PlanRow) -> usize {
+    let id = put_padded(line, 0, row.id as u64, 6);
+    let cost = put_padded(line, id, row.cost as u64, 9);
+    let validity = put_padded(line, cost, row.validity as u64, 9);
+    let deadline = put_padded(line, validity, row.deadline as u64, 9);
+    put_padded(line, deadline, row.period as u64, 9)
+}
+
+// The longest age seen; an object that never had a value has none, and a value is never of age 0.
+fn put_age(line: &mut [u8; 160], at: usize, longest: u32) -> usize {
+    if longest == 0 {
+        let to = put_blanks(line, at, 8);
+        put(line, to, b'-')
+    } else {
+        put_padded(line, at, longest as u64, 9)
+    }
+}
+
+// A line of the table.
+fn print_row(row: RunRow, tally: Tally) {
+    let mut line = [b' '; 160];
+    let planned = row.planned;
+    let at = put_planned(&mut line, planned);
+    let age = put_age(&mut line, at, tally.longest);
+    let none = put_padded(&mut line, age, tally.none as u64, 9);
+    let stale = put_padded(&mut line, none, tally.stale as u64, 9);
+    let skips = put_padded(&mut line, stale, row.skips as u64, 9);
+    end(&mut line, skips);
+}
+
+// The table: the heading stands over columns of 6 and then 9 signs.
+fn print_rows(run: Run, all: Tallies) {
+    printing::text(
+        b"    id     cost validity deadline   period   oldest     none    stale  skipped\n",
+    );
+    let rows = all.rows;
+    for i in 0..64usize {
+        if i < run.count {
+            let row = run.rows[i];
+            let tally = rows[i];
+            print_row(row, tally);
+        }
+    }
+}
+
+// An id of the last sentence.
+fn print_id(first: bool, id: u16) {
+    if first {
+        printing::text(b" ");
+    } else {
+        printing::text(b", ");
+    }
+    printing::number(id as u64);
+}
+
+// The ids of the objects whose value is none or stale at the end.
+fn print_lacking(run: Run, all: Tallies, last: u32) {
+    let rows = all.rows;
+    let mut first = true;
+    for i in 0..64usize {
+        if (i < run.count) & (rows[i].lacking == last) {
+            let row = run.rows[i];
+            print_id(first, row.planned.id);
+            first = false;
+        }
+    }
+}
+
+// The last sentence.
+fn print_end(run: Run, all: Tallies, slots: usize) {
+    let last = tallies::last_lacking(all, run.count);
+    if (last as usize) < slots {
+        printing::text(b"Every value was current from slot ");
+        printing::number(last as u64);
+        printing::text(b" on.\n");
+    } else {
+        printing::text(b"Not every value is current at the end:");
+        print_lacking(run, all, last);
+        printing::text(b".\n");
+    }
+}
+
+pub fn print(run: Run, all: Tallies, slots: usize) {
+    print_rows(run, all);
+    print_end(run, all, slots);
+}

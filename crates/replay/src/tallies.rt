@@ -1,0 +1,159 @@
+// What happened to one object in one slot, told from its row before the slot and after it, and what is counted of it.
+ghost use mathlib.Core.Path.{_≡_};
+ghost use Rattle.rules.specs.Run.{releasedOf};
+use rules::Run;
+use rules::RunRow;
+use rules::Stored;
+
+// What is counted of an object: the sample instant of its stored value, the longest age seen, how many slots left it with
+// no value and with a stale one, and the instant after the last such slot.
+pub struct Tally {
+    pub sampled: u32,
+    pub longest: u32,
+    pub none: u32,
+    pub stale: u32,
+    pub lacking: u32,
+}
+
+pub struct Tallies {
+    pub rows: [Tally; 64],
+}
+
+pub fn no_tallies() -> Tallies {
+    let none = Tally {
+        sampled: 0,
+        longest: 0,
+        none: 0,
+        stale: 0,
+        lacking: 0,
+    };
+    let rows = [none; 64];
+    Tallies { rows }
+}
+
+// The work at hand after step 1.
+fn work_at_hand(clock: u32, before: RunRow) -> u32
+    ensures { λ r. ⌜ r ≡ releasedOf clock before .left ⌝ }
+{
+    if before.next == clock {
+        if before.left == 0 {
+            return before.planned.cost;
+        }
+    }
+    before.left
+}
+
+// The sample of the job at hand after step 1.
+fn sample_at_hand(clock: u32, before: RunRow) -> u32
+    ensures { λ r. ⌜ r ≡ releasedOf clock before .sample ⌝ }
+{
+    if before.next == clock {
+        if before.left == 0 {
+            return clock;
+        }
+    }
+    before.sample
+}
+
+// Whether the object did a unit of work.
+fn ran(clock: u32, before: RunRow, after: RunRow) -> bool {
+    work_at_hand(clock, before) != after.left
+}
+
+fn chosen(test: bool, yes: u8, no: u8) -> u8 {
+    if test { yes } else { no }
+}
+
+// The sign of the job: upper line of an object.
+pub fn job_sign(clock: u32, before: RunRow, after: RunRow) -> u8 {
+    let worked = ran(clock, before, after);
+    if before.next == clock {
+        if before.left == 0 {
+            chosen(worked, b'R', b'r')
+        } else {
+            chosen(worked, b'*', b'!')
+        }
+    } else {
+        chosen(worked, b'#', chosen(before.left == 0, b'.', b'-'))
+    }
+}
+
+// The sign of the value after the slot: lower line of an object.
+pub fn value_sign(after: RunRow) -> u8 {
+    let stored = after.stored;
+    match stored {
+        Stored::Empty => b' ',
+        Stored::Held(_) => b'=',
+        Stored::Lapsed => b'?',
+    }
+}
+
+// The sample instant of the stored value after the slot: a job that ended brought its own.
+fn sampled_after(sampled: u32, clock: u32, before: RunRow, after: RunRow) -> u32 {
+    if ran(clock, before, after) & (after.left == 0) {
+        sample_at_hand(clock, before)
+    } else {
+        sampled
+    }
+}
+
+fn larger(a: u32, b: u32) -> u32 {
+    if a < b { b } else { a }
+}
+
+fn one_more(n: u32) -> u32 {
+    std::num::wrapping_add_u32(n, 1)
+}
+
+// The tally after one slot more. The run is no longer than its clock goes round, so an age counted on from the sample is true
+// also where the stored value has lapsed.
+fn tallied_row(tally: Tally, clock: u32, before: RunRow, after: RunRow) -> Tally {
+    let sampled = sampled_after(tally.sampled, clock, before, after);
+    let now = one_more(clock);
+    let longest = larger(tally.longest, std::num::wrapping_sub_u32(now, sampled));
+    let mut next = tally;
+    next.sampled = sampled;
+    let stored = after.stored;
+    match stored {
+        Stored::Empty => {
+            next.none = one_more(tally.none);
+            next.lacking = now;
+        }
+        Stored::Held(_) => {
+            next.longest = longest;
+        }
+        Stored::Lapsed => {
+            next.longest = longest;
+            next.stale = one_more(tally.stale);
+            next.lacking = now;
+        }
+    }
+    next
+}
+
+// All tallies after one slot more.
+pub fn tallied(tallies: Tallies, before: Run, after: Run) -> Tallies {
+    let mut rows = tallies.rows;
+    for i in 0..64usize {
+        if i < before.count {
+            let old = rows[i];
+            let was = before.rows[i];
+            let is = after.rows[i];
+            let new = tallied_row(old, before.clock, was, is);
+            rows[i] = new;
+        }
+    }
+    Tallies { rows }
+}
+
+// The instant after the last slot that left some object with no value or a stale one.
+pub fn last_lacking(tallies: Tallies, count: usize) -> u32 {
+    let rows = tallies.rows;
+    let mut last = 0;
+    for i in 0..64usize {
+        if i < count {
+            last = larger(last, rows[i].lacking);
+        }
+    }
+    last
+}

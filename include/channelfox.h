@@ -1,0 +1,153 @@
+/* Channelfox for C: stored tables, plans and runs, by the rules of document 01.
+ *
+ * Link with libchannelfox.a (`rt staticlib channelfox`). No function keeps anything between calls, none allocates, and none
+ * asks anything of what it is handed but that each pointer goes with its length: bytes, rows, numbers and run states may be
+ * good or bad, and what is bad is refused with a number and a place. What is lent for reading is never changed.
+ *
+ * Refusals (verdict.number; 0 is "accepted"), with the place told:
+ *    1 fewer than 8 bytes                                   0
+ *    2 more than 4,096 bytes                                0
+ *    3 the mark is not 4D 4C                                0
+ *    4 count 0 or above 64                                  0
+ *    5 distance below 8 + 12 n or above the number of bytes 0
+ *    6 spare not zero                                       record
+ *    7 cost outside 1 to 1,000,000                          record
+ *    8 validity outside 2 to 1,000,000                      record
+ *    9 id equal to an earlier record's                      record
+ *   10 some object has no deadline                          0
+ *   11 the number of first releases is not n                0
+ *   12 a first release not below its object's period        place in priority order
+ *   13 not a run state                                      0
+ *   14 no object with that id                               0
+ */
+#ifndef CHANNELFOX_H
+#define CHANNELFOX_H
+
+#include <stdbool.h>
+#include <stddef.h>
+#include <stdint.h>
+
+#ifdef __cplusplus
+extern "C" {
+#endif
+
+#define CHANNELFOX_ROWS 64
+
+/* number 0 and place 0: accepted; otherwise the refusal. */
+typedef struct {
+    uint8_t number;
+    size_t place;
+} channelfox_verdict;
+
+typedef struct {
+    uint16_t id;
+    uint32_t cost;
+    uint32_t validity;
+} channelfox_object_row;
+
+typedef struct {
+    size_t count;
+    channelfox_object_row rows[CHANNELFOX_ROWS];
+} channelfox_table;
+
+typedef struct {
+    uint16_t id;
+    uint32_t cost;
+    uint32_t validity;
+    uint32_t deadline;
+    uint32_t period;
+} channelfox_plan_row;
+
+typedef struct {
+    size_t count;
+    channelfox_plan_row rows[CHANNELFOX_ROWS];
+} channelfox_plan;
+
+/* The stored value of an object: none, held with its sample instant, or lapsed. */
+enum { CHANNELFOX_NONE = 0, CHANNELFOX_HELD = 1, CHANNELFOX_LAPSED = 2 };
+
+typedef struct {
+    channelfox_plan_row planned;
+    uint32_t next;    /* clock value of the next release */
+    uint32_t left;    /* work left of the job in hand, 0 if none */
+    uint32_t sample;  /* that job's sample instant */
+    uint32_t lapsed;  /* whether that sample has lapsed: 0 or 1 */
+    uint32_t stored;  /* CHANNELFOX_NONE, _HELD or _LAPSED */
+    uint32_t held;    /* the sample instant of a held value, 0 otherwise */
+    uint32_t skips;   /* releases skipped, stopping at 4,294,967,295 */
+} channelfox_run_row;
+
+typedef struct {
+    uint32_t clock;
+    size_t count;
+    channelfox_run_row rows[CHANNELFOX_ROWS];
+} channelfox_run;
+
+typedef struct {
+    channelfox_verdict verdict;
+    channelfox_table table;
+} channelfox_read_answer;
+
+typedef struct {
+    channelfox_verdict verdict;
+    channelfox_plan plan;
+} channelfox_plan_answer;
+
+typedef struct {
+    channelfox_verdict verdict;
+    channelfox_run run;
+} channelfox_run_answer;
+
+/* What a reading says: no value yet, a value that has lapsed, or a fresh one with its age. */
+enum { CHANNELFOX_NEVER = 0, CHANNELFOX_STALE = 1, CHANNELFOX_FRESH = 2 };
+
+typedef struct {
+    channelfox_verdict verdict;
+    uint32_t value; /* CHANNELFOX_NEVER, _STALE or _FRESH; 0 where refused */
+    uint32_t age;   /* of a fresh value, in slots; otherwise 0 */
+} channelfox_reading;
+
+/* The part chosen: of the site bytes (1), of the factory bytes (2), `length` bytes from `start` on. */
+typedef struct {
+    uint32_t source;
+    size_t start;
+    size_t length;
+} channelfox_part;
+
+/* Reads a stored table. Refusals 1 to 9, with count 0 and every field zero. Rows beyond the count are zero. */
+channelfox_read_answer channelfox_read(const uint8_t *bytes, size_t length);
+
+/* The second door: a list of rows in memory becomes a table. Refusals 4, 7, 8, 9, with count 0 and every field zero. */
+channelfox_read_answer channelfox_rows(const channelfox_object_row *rows, size_t length);
+
+/* The records part of the site table if that reads without refusal, otherwise of the factory table if that one does,
+ * otherwise the empty part at the start of the factory bytes (source 2, start 0, length 0). */
+channelfox_part channelfox_choose(const uint8_t *site, size_t site_length, const uint8_t *factory, size_t factory_length);
+
+/* Plans a table: refusals 4, 7, 8, 9, then 10, with count 0 and every field zero. Rows of the table beyond its count are
+ * not read; rows of the plan beyond its count are zero. */
+channelfox_plan_answer channelfox_plan_table(channelfox_table table);
+
+/* Reads a stored table and plans it: refusals 1 to 10. */
+channelfox_plan_answer channelfox_plan_stored(const uint8_t *bytes, size_t length);
+
+/* Plans a table and starts a run of it at any clock, with one first release for each object, in priority order, counted
+ * from the clock. Refusals 4, 7, 8, 9, 10, then 11, then 12, with count 0 and every field zero or none. */
+channelfox_run_answer channelfox_start(channelfox_table table, uint32_t clock, const uint32_t *firsts, size_t length);
+
+/* One slot, in place. Refusal 13 leaves the run exactly as it came in. A row whose `lapsed` is not 0 or 1, whose `stored` is
+ * above 2, or that holds an instant while nothing is held, is no run state (here and below). */
+channelfox_verdict channelfox_slot(channelfox_run *run, bool stolen);
+
+/* One slot for each byte of `stolen`: 0, the core is ours; anything else, it is stolen. Refusal 13, also where `length` is 0,
+ * hands the run back exactly as it came in. */
+channelfox_run_answer channelfox_advance(channelfox_run run, const uint8_t *stolen, size_t length);
+
+/* What is known of an object's value. Refusals 13, then 14, with no age and no value. */
+channelfox_reading channelfox_read_value(channelfox_run run, uint16_t id);
+
+#ifdef __cplusplus
+}
+#endif
+
+#endif

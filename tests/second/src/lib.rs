@@ -1,0 +1,12 @@
+//! Document 01 written again from the paper alone: stored tables, plans and runs. Plain before fast.
+//!
+//! The run is written over true instants, 64-bit numbers that never come round, and holds no lapse marks. What a 32-bit
+//! run must show is derived from them in `states`.
+
+#![forbid(unsafe_code)]
+
+pub mod numbers;
+pub mod planning;
+pub mod running;
+pub mod states;
+pub mod tables;

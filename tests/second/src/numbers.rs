@@ -1,0 +1,108 @@
+//! The paper's own numbers, as it lists them under "Numbers to hold against it".
+
+use crate::planning::PlanRow;
+use crate::tables::ObjectRow;
+
+/// Objects (id, cost, validity) in priority order with the answers (deadline, period), or none where the paper has
+/// refusal 10.
+pub struct Numbers {
+    pub from: &'static str,
+    pub objects: &'static [(u16, u32, u32)],
+    pub answers: Option<&'static [(u32, u32)]>,
+}
+
+impl Numbers {
+    /// The object rows, in priority order.
+    pub fn rows(&self) -> Vec<ObjectRow> {
+        self.objects
+            .iter()
+            .map(|&(id, cost, validity)| ObjectRow { id, cost, validity })
+            .collect()
+    }
+
+    /// The plan rows, or none where the paper has refusal 10.
+    pub fn plan(&self) -> Option<Vec<PlanRow>> {
+        let answers = self.answers?;
+        let rows = self.rows();
+        assert_eq!(rows.len(), answers.len());
+        let planned = rows.iter().zip(answers);
+        Some(
+            planned
+                .map(|(row, &(deadline, period))| PlanRow {
+                    id: row.id,
+                    cost: row.cost,
+                    validity: row.validity,
+                    deadline,
+                    period,
+                })
+                .collect(),
+        )
+    }
+}
+
+/// The plans of the paper. Where it gives no ids, they count up from 1.
+pub const PLANS: &[Numbers] = &[
+    Numbers {
+        from: "000, Table 3",
+        objects: &[(1, 1, 3), (2, 2, 20)],
+        answers: Some(&[(1, 2), (4, 16)]),
+    },
+    Numbers {
+        from: "000, Table 4",
+        objects: &[(10, 1, 4), (20, 1, 5), (30, 1, 8), (40, 1, 20)],
+        answers: Some(&[(1, 3), (2, 3), (3, 5), (9, 11)]),
+    },
+    Numbers {
+        from: "000, Table 5",
+        objects: &[(1, 1, 8), (2, 1, 10), (3, 1, 12)],
+        answers: Some(&[(1, 7), (2, 8), (3, 9)]),
+    },
+    Numbers {
+        from: "002, Figure 2",
+        objects: FIGURE_2,
+        answers: Some(&[(2, 6), (4, 6), (6, 6)]),
+    },
+    Numbers {
+        from: "002, Figure 2, with 12 made 11",
+        objects: &[(1, 2, 8), (2, 2, 10), (3, 2, 11)],
+        answers: None,
+    },
+    Numbers {
+        from: "(1,2)",
+        objects: &[(1, 1, 2)],
+        answers: Some(&[(1, 1)]),
+    },
+    Numbers {
+        from: "(1,2), (1,1000000)",
+        objects: &[(1, 1, 2), (2, 1, 1_000_000)],
+        answers: None,
+    },
+    Numbers {
+        from: "(500000,1000000)",
+        objects: &[(1, 500_000, 1_000_000)],
+        answers: Some(&[(500_000, 500_000)]),
+    },
+    Numbers {
+        from: "(500001,1000000)",
+        objects: &[(1, 500_001, 1_000_000)],
+        answers: None,
+    },
+    Numbers {
+        from: "(1,3), (1,4)",
+        objects: &[(1, 1, 3), (2, 1, 4)],
+        answers: Some(&[(1, 2), (2, 2)]),
+    },
+    Numbers {
+        from: "(1,3), (1,3)",
+        objects: &[(1, 1, 3), (2, 1, 3)],
+        answers: None,
+    },
+    Numbers {
+        from: "id 1 (1,10), id 2 (3,10)",
+        objects: &[(2, 3, 10), (1, 1, 10)],
+        answers: Some(&[(3, 7), (4, 6)]),
+    },
+];
+
+/// 002's set, of which the paper also tells a run.
+pub const FIGURE_2: &[(u16, u32, u32)] = &[(1, 2, 8), (2, 2, 10), (3, 2, 12)];

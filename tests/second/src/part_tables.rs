@@ -1,0 +1,209 @@
+//! Parts 1 and 2: stored tables, the choice between two of them, and the second door.
+
+use paper::planning::plan;
+use paper::tables::{check_table, choose, read, ObjectRow, Refusal, MOST_OBJECTS};
+
+use crate::generate::{garbage_row, object_rows, spoil_rows, Times};
+use crate::random::Random;
+use crate::tally::{agree, for_cases, hex, Tally};
+use crate::{cform, ffi, stored};
+
+const STORED_TABLES: u64 = 130_000;
+const PAIRS: u64 = 30_000;
+const LISTS: u64 = 30_000;
+
+/// Part 1: stored tables through the reader, and half of them through the planner.
+pub fn stored_tables(seed: u64) -> Result<(), String> {
+    let mut tally = Tally::new();
+    tally.expect("stored tables", 100_000);
+    tally.expect("of them also planned from the bytes", 50_000);
+    tally.expect("read", 20_000);
+    for length in LENGTHS {
+        tally.expect(format!("of {length} bytes"), 50);
+    }
+    for number in 1..=5 {
+        tally.expect(format!("refusal {number}"), 100);
+    }
+    for distance in DISTANCES {
+        tally.expect(distance, 100);
+    }
+    for number in 6..=9 {
+        for class in PLACES {
+            // No record is earlier than the first, so 9 cannot be told there.
+            if (number, class) != (9, FIRST) {
+                tally.expect(format!("refusal {number} at {class}"), 20);
+            }
+        }
+    }
+    tally.expect("planned from the bytes: planned", 1000);
+    tally.expect("planned from the bytes: refusal 10", 1000);
+    for_cases(seed, 1, STORED_TABLES, |random| stored_table(random, &mut tally))?;
+    tally.close()
+}
+
+const FIRST: &str = "place 0";
+const PLACES: [&str; 4] = [FIRST, "a middle place", "the last place", "place 63"];
+
+/// Lengths that must have been seen.
+const LENGTHS: [usize; 12] = [0, 1, 2, 3, 4, 5, 6, 7, 8, 9, 4096, 4097];
+
+/// Distances that must have been seen where nothing but check 5 and the records can refuse.
+const DISTANCES: [&str; 4] = [
+    "distance one below 8 + 12 n",
+    "distance 8 + 12 n",
+    "distance the number of bytes",
+    "distance one above the number of bytes",
+];
+
+fn stored_table(random: &mut Random, tally: &mut Tally) -> Result<(), String> {
+    let bytes = stored::any(random);
+    let answer = read(&bytes);
+    let input = || format!("{} bytes {}", bytes.len(), hex(&bytes));
+    agree(
+        "channelfox_read",
+        &Ok(cform::read_answer(&answer)),
+        &ffi::read(&bytes),
+        input,
+    )?;
+    tally.add("stored tables", 1);
+    tally.add(&told(&bytes, &answer), 1);
+    tell_length_and_distance(&bytes, &answer, tally);
+    let far = answer.as_ref().is_ok_and(|rows| is_far_to_search(rows));
+    if random.one_in(if far { 40 } else { 2 }) {
+        let planned = answer.and_then(|rows| plan(rows.len(), &rows));
+        let library = ffi::plan_stored(&bytes);
+        agree(
+            "channelfox_plan_stored",
+            &Ok(cform::plan_answer(&planned)),
+            &library,
+            input,
+        )?;
+        tally.add("of them also planned from the bytes", 1);
+        match planned {
+            Ok(_) => tally.add("planned from the bytes: planned", 1),
+            Err(Refusal { number: 10, .. }) => tally.add("planned from the bytes: refusal 10", 1),
+            Err(_) => {}
+        }
+    }
+    Ok(())
+}
+
+/// Many objects with long validities, whose deadlines are far to search for a planner that tries every t.
+fn is_far_to_search(rows: &[ObjectRow]) -> bool {
+    rows.len() > 6 && rows.iter().filter(|row| row.validity > 10_000).count() > 3
+}
+
+fn tell_length_and_distance(bytes: &[u8], answer: &Result<Vec<ObjectRow>, Refusal>, tally: &mut Tally) {
+    let length = bytes.len();
+    if LENGTHS.contains(&length) {
+        tally.add(&format!("of {length} bytes"), 1);
+    }
+    if matches!(answer, Err(Refusal { number: 1..=4, .. })) {
+        return;
+    }
+    let trailer: [u8; 4] = bytes[length - 8..length - 4].try_into().expect("four bytes");
+    let distance = u32::from_le_bytes(trailer) as usize;
+    let needed = 8 + 12 * usize::from(bytes[length - 4]);
+    let limits = [needed - 1, needed, length, length + 1];
+    for (limit, told) in limits.into_iter().zip(DISTANCES) {
+        if distance == limit {
+            tally.add(told, 1);
+        }
+    }
+}
+
+/// The line of the tally for an answer of the reader.
+fn told(bytes: &[u8], answer: &Result<Vec<ObjectRow>, Refusal>) -> String {
+    match answer {
+        Ok(_) => "read".to_string(),
+        Err(Refusal {
+            number: number @ 1..=5, ..
+        }) => format!("refusal {number}"),
+        Err(Refusal { number, place }) => {
+            // A refusal of a record has come past checks 1 to 5, so the count is one to rely on.
+            let count = u32::from(bytes[bytes.len() - 4]);
+            let class = match *place {
+                0 => FIRST,
+                63 => PLACES[3],
+                place if place + 1 == count => PLACES[2],
+                _ => PLACES[1],
+            };
+            format!("refusal {number} at {class}")
+        }
+    }
+}
+
+/// Part 2: the choice, and the second door.
+pub fn choices_and_lists(seed: u64) -> Result<(), String> {
+    let mut tally = Tally::new();
+    tally.expect("pairs of site and factory bytes", 10_000);
+    for site in ["good", "bad"] {
+        for factory in ["good", "bad"] {
+            tally.expect(format!("site {site}, factory {factory}"), 1000);
+        }
+    }
+    for_cases(seed, 20, PAIRS, |random| choice(random, &mut tally))?;
+    tally.expect("lists of object rows", 10_000);
+    tally.expect("lists accepted", 1000);
+    for number in [4, 7, 8, 9] {
+        tally.expect(format!("lists with refusal {number}"), 1000);
+    }
+    for_cases(seed, 21, LISTS, |random| list(random, &mut tally))?;
+    tally.close()
+}
+
+fn choice(random: &mut Random, tally: &mut Tally) -> Result<(), String> {
+    let site = good_or_bad(random);
+    let factory = good_or_bad(random);
+    let chosen = choose(&site, &factory);
+    let library = ffi::choose(&site, &factory);
+    agree("channelfox_choose", &Ok(cform::part(&chosen)), &library, || {
+        format!("site {}\n  factory {}", hex(&site), hex(&factory))
+    })?;
+    tally.add("pairs of site and factory bytes", 1);
+    let word = |bytes| if read(bytes).is_ok() { "good" } else { "bad" };
+    tally.add(&format!("site {}, factory {}", word(&site), word(&factory)), 1);
+    Ok(())
+}
+
+fn good_or_bad(random: &mut Random) -> Vec<u8> {
+    match random.one_in(2) {
+        true => stored::good(random),
+        false => stored::bad(random),
+    }
+}
+
+fn list(random: &mut Random, tally: &mut Tally) -> Result<(), String> {
+    let rows = rows_of_any_length(random);
+    let answer = check_table(rows.len(), &rows).map(|rows| rows.to_vec());
+    let in_c: Vec<ffi::ObjectRow> = rows.iter().map(cform::object_row).collect();
+    let library = ffi::rows(&in_c);
+    agree("channelfox_rows", &Ok(cform::read_answer(&answer)), &library, || {
+        format!("{} rows {rows:?}", rows.len())
+    })?;
+    tally.add("lists of object rows", 1);
+    match answer {
+        Ok(_) => tally.add("lists accepted", 1),
+        Err(refusal) => tally.add(&format!("lists with refusal {}", refusal.number), 1),
+    }
+    Ok(())
+}
+
+/// From none to 70 rows, good ones half of the time.
+fn rows_of_any_length(random: &mut Random) -> Vec<ObjectRow> {
+    let length = match random.below(8) {
+        0 => 0,
+        1 => random.between(MOST_OBJECTS, MOST_OBJECTS + 1),
+        2 => random.between(MOST_OBJECTS - 1, 70),
+        _ => random.between(1, 70),
+    };
+    let times = random.pick(&[Times::Short, Times::Middle, Times::Long, Times::Ends]);
+    let mut rows = object_rows(random, length, times);
+    if length > 0 && random.one_in(2) {
+        spoil_rows(random, &mut rows);
+    }
+    if length > 0 && random.one_in(10) {
+        rows.fill_with(|| garbage_row(random));
+    }
+    rows
+}

@@ -1,0 +1,317 @@
+//! Random stored tables, good and damaged.
+
+use paper::tables::{ObjectRow, MARK, MOST_BYTES, MOST_OBJECTS, RECORD, TRAILER};
+
+use crate::generate::{bad_cost, bad_validity, object_count, object_rows, place, Times};
+use crate::random::Random;
+
+/// A stored table in its parts, which need not fit together.
+struct Draft {
+    before: Vec<u8>,
+    records: Vec<Record>,
+    between: Vec<u8>,
+    distance: u32,
+    count: u16,
+    mark: [u8; 2],
+}
+
+struct Record {
+    row: ObjectRow,
+    spare: u16,
+}
+
+/// A stored table of any kind.
+pub fn any(random: &mut Random) -> Vec<u8> {
+    match random.below(20) {
+        0 => tiny(random),
+        1 => noise(random),
+        2..=6 => good(random),
+        7..=11 => {
+            let mut draft = good_draft(random);
+            spoil_records(random, &mut draft);
+            draft.bytes()
+        }
+        12..=14 => {
+            let mut draft = good_draft(random);
+            spoil_trailer(random, &mut draft);
+            draft.bytes()
+        }
+        15 => {
+            let mut draft = good_draft(random);
+            lengthen(random, &mut draft);
+            draft.bytes()
+        }
+        16 => {
+            let bytes = good(random);
+            cut(random, bytes)
+        }
+        17 | 18 => {
+            let bytes = good(random);
+            flip_bits(random, bytes)
+        }
+        _ => spoiled_in_many_ways(random),
+    }
+}
+
+/// A stored table that reads.
+pub fn good(random: &mut Random) -> Vec<u8> {
+    good_draft(random).bytes()
+}
+
+/// A stored table that does not, most of the time.
+pub fn bad(random: &mut Random) -> Vec<u8> {
+    match random.below(4) {
+        0 => tiny(random),
+        1 => noise(random),
+        2 => {
+            let bytes = good(random);
+            flip_bits(random, bytes)
+        }
+        _ => spoiled_in_many_ways(random),
+    }
+}
+
+fn good_draft(random: &mut Random) -> Draft {
+    let count = object_count(random);
+    let times = match random.below(16) {
+        0 => Times::Long,
+        1..=3 => Times::Ends,
+        4..=6 => Times::Middle,
+        7..=9 => Times::Tied,
+        _ => Times::Short,
+    };
+    let rows = object_rows(random, count, times);
+    let room = MOST_BYTES - TRAILER - RECORD * count;
+    let before = gap(random, room);
+    let between = gap(random, room - before.len());
+    Draft {
+        distance: (TRAILER + RECORD * count + between.len()) as u32,
+        count: count as u16,
+        mark: MARK,
+        records: rows.into_iter().map(|row| Record { row, spare: 0 }).collect(),
+        before,
+        between,
+    }
+}
+
+/// Bytes that are not read: mostly none or a few, sometimes all there is room for.
+fn gap(random: &mut Random, room: usize) -> Vec<u8> {
+    let length = match random.below(8) {
+        0..=2 => 0,
+        3 | 4 => random.between(1, 3).min(room),
+        5 | 6 => random.between(0, 40).min(room),
+        _ => random.pick(&[room, room / 2]),
+    };
+    noise_of(random, length)
+}
+
+fn noise_of(random: &mut Random, length: usize) -> Vec<u8> {
+    (0..length).map(|_| random.byte()).collect()
+}
+
+impl Draft {
+    fn bytes(&self) -> Vec<u8> {
+        let mut bytes = self.before.clone();
+        for record in &self.records {
+            bytes.extend(record.row.id.to_le_bytes());
+            bytes.extend(record.spare.to_le_bytes());
+            bytes.extend(record.row.cost.to_le_bytes());
+            bytes.extend(record.row.validity.to_le_bytes());
+        }
+        bytes.extend(&self.between);
+        bytes.extend(self.distance.to_le_bytes());
+        bytes.extend(self.count.to_le_bytes());
+        bytes.extend(self.mark);
+        bytes
+    }
+
+    fn length(&self) -> usize {
+        self.before.len() + self.records.len() * RECORD + self.between.len() + TRAILER
+    }
+}
+
+/// One to four faults in the records, half of them in the record of the fault before: so the order of the checks within
+/// a record shows, and the order of the records.
+fn spoil_records(random: &mut Random, draft: &mut Draft) {
+    let count = draft.records.len();
+    let mut at = place(random, count);
+    for _ in 0..random.between(1, 4) {
+        match random.below(4) {
+            0 => draft.records[at].spare = random.pick(&[1, 255, 256, 0x8000, 0xFFFF]),
+            1 => draft.records[at].row.cost = bad_cost(random),
+            2 => draft.records[at].row.validity = bad_validity(random),
+            _ => draft.records[at].row.id = draft.records[place(random, count)].row.id,
+        }
+        if random.one_in(2) {
+            at = place(random, count);
+        }
+    }
+}
+
+/// Faults in one, two or all three of the parts of the trailer.
+fn spoil_trailer(random: &mut Random, draft: &mut Draft) {
+    let parts = random.between(1, 7);
+    if parts & 1 != 0 {
+        draft.distance = odd_distance(random, draft);
+    }
+    if parts & 2 != 0 {
+        draft.count = odd_count(random, draft.count);
+    }
+    if parts & 4 != 0 {
+        draft.mark = odd_mark(random);
+    }
+}
+
+/// A distance near one of its limits, or far off, or any.
+fn odd_distance(random: &mut Random, draft: &Draft) -> u32 {
+    let needed = (TRAILER + RECORD * draft.records.len()) as u32;
+    let length = draft.length() as u32;
+    let any = random.word();
+    let within = random.words(needed, length);
+    // What fits only if numbers come round.
+    let around = length.wrapping_sub(random.words(length + 1, length + 5000));
+    random.pick(&[
+        needed - 1,
+        needed,
+        length,
+        length + 1,
+        within,
+        0,
+        7,
+        8,
+        needed - RECORD as u32,
+        any % 5000,
+        any,
+        1 << 31,
+        u32::MAX - 7,
+        u32::MAX,
+        around,
+    ])
+}
+
+fn odd_count(random: &mut Random, good: u16) -> u16 {
+    let any = random.word() as u16;
+    random.pick(&[
+        0,
+        good.wrapping_sub(1),
+        good + 1,
+        MOST_OBJECTS as u16,
+        MOST_OBJECTS as u16 + 1,
+        good + 256,
+        256,
+        65_535,
+        any,
+    ])
+}
+
+fn odd_mark(random: &mut Random) -> [u8; 2] {
+    let [first, second] = MARK;
+    let any = random.byte();
+    random.pick(&[
+        [second, first],
+        [first, any],
+        [any, second],
+        [0, 0],
+        [first, first],
+        [any, any],
+    ])
+}
+
+/// Too many bytes by one or by many, or just as many as may be, with the distance kept or stretched over them.
+fn lengthen(random: &mut Random, draft: &mut Draft) {
+    let length = random.pick(&[MOST_BYTES, MOST_BYTES + 1, MOST_BYTES + 1, MOST_BYTES + 2, 5000, 70_000]);
+    let more = length - draft.length().min(length);
+    if random.one_in(2) {
+        draft.before.extend(noise_of(random, more));
+    } else {
+        draft.between.extend(noise_of(random, more));
+        if random.one_in(2) {
+            draft.distance = draft.distance.wrapping_add(more as u32);
+        }
+    }
+}
+
+/// At most nine bytes, sometimes with a trailer that would be good if there were something before it.
+fn tiny(random: &mut Random) -> Vec<u8> {
+    let mut trailer = noise_of(random, 2);
+    trailer.extend(random.words(8, 33).to_le_bytes());
+    trailer.extend([1, 0]);
+    trailer.extend(MARK);
+    if random.one_in(2) {
+        trailer = noise_of(random, trailer.len());
+    }
+    if random.one_in(4) {
+        trailer.fill(0);
+    }
+    trailer.split_off(1 + random.below(trailer.len()))
+}
+
+/// Any bytes, sometimes with the mark, and sometimes with a count and a distance that may do.
+fn noise(random: &mut Random) -> Vec<u8> {
+    let most = random.pick(&[20, 40, 200, 1000, 4100]);
+    let length = random.between(8, most);
+    let mut bytes = noise_of(random, length);
+    if random.one_in(4) {
+        bytes.fill(0);
+    }
+    let trailer = length - TRAILER;
+    if !random.one_in(4) {
+        bytes[length - 2..].copy_from_slice(&MARK);
+    }
+    if !random.one_in(3) {
+        let count = random.words(0, 66) as u16;
+        bytes[trailer + 4..trailer + 6].copy_from_slice(&count.to_le_bytes());
+    }
+    if !random.one_in(3) {
+        let distance = random.words(0, length as u32 + 2);
+        bytes[trailer..trailer + 4].copy_from_slice(&distance.to_le_bytes());
+    }
+    bytes
+}
+
+/// Takes bytes off the front or the back, a few or many.
+fn cut(random: &mut Random, mut bytes: Vec<u8>) -> Vec<u8> {
+    let most = random.pick(&[1, 2, 13, bytes.len()]);
+    let less = random.between(1, most).min(bytes.len());
+    if random.one_in(3) {
+        bytes.truncate(bytes.len() - less);
+        bytes
+    } else {
+        bytes.split_off(less)
+    }
+}
+
+/// Flips one to six bits, half of the time close to the end, where the trailer is.
+fn flip_bits(random: &mut Random, mut bytes: Vec<u8>) -> Vec<u8> {
+    for _ in 0..random.between(1, 6) {
+        let length = bytes.len();
+        let at = match random.one_in(2) {
+            true => length - 1 - random.below(length.min(TRAILER)),
+            false => random.below(length),
+        };
+        bytes[at] ^= 1 << random.below(8);
+    }
+    bytes
+}
+
+/// Several kinds of faults at once.
+fn spoiled_in_many_ways(random: &mut Random) -> Vec<u8> {
+    let mut draft = good_draft(random);
+    if !random.one_in(3) {
+        spoil_records(random, &mut draft);
+    }
+    if random.one_in(2) {
+        spoil_trailer(random, &mut draft);
+    }
+    if random.one_in(4) {
+        lengthen(random, &mut draft);
+    }
+    let mut bytes = draft.bytes();
+    if random.one_in(4) {
+        bytes = cut(random, bytes);
+    }
+    if random.one_in(4) && !bytes.is_empty() {
+        bytes = flip_bits(random, bytes);
+    }
+    bytes
+}

@@ -1,0 +1,223 @@
+//! The benchmark: the planner, the checked slot and the advance of libchannelfox.a against the same work in Rust.
+
+mod ffi;
+mod inputs;
+mod measure;
+mod plan;
+mod run;
+
+use std::hint::black_box;
+
+use ffi::{Plan, Table, Verdict};
+use inputs::{Random, LONG, LONGEST, SHORT};
+use measure::{compare, print_head, print_line, print_rule, Outcome};
+use plan::plan;
+use run::{advance_in_one_pass, advance_in_three_passes, c_form, checked_slot, Run};
+
+const COUNTS: [usize; 3] = [1, 8, 64];
+
+/// Calls of the planner between two looks at the watch, at least.
+const PLANS: usize = 16;
+/// Checked slots from one and the same run state.
+const SLOTS: usize = 1_000;
+/// Slots of one call of advance.
+const ADVANCE: usize = 10_000;
+
+fn main() {
+    let mut random = Random(1);
+    print_head();
+    for count in COUNTS {
+        planner(count, &mut random);
+    }
+    print_rule();
+    for count in COUNTS {
+        slots(count, &mut random);
+    }
+    print_rule();
+    for count in COUNTS {
+        advances(count, &mut random);
+    }
+    print_rule();
+    print_notes();
+}
+
+fn print_notes() {
+    println!("plan:    the C entry takes the table and hands back the plan by value; Rust is lent the table.");
+    println!("slot:    on every call the C entry converts the C form of the run to the library's own and back,");
+    println!("         64 rows each way, whatever the count. Rust checks and changes its own form in place.");
+    println!(
+        "advance: {ADVANCE} slots a call; both sides check once. Rust does plain slots, each over all rows, and is"
+    );
+    println!("         the faster of one pass and three passes over them (the input says which). The library counts");
+    println!("         the slots in which nothing is released or lapses, and in these does not go over all rows: the");
+    println!("         answer is the same, the steps are not, and the ratio tells of both.");
+}
+
+fn planner(count: usize, random: &mut Random) {
+    for (name, span) in [("short", SHORT), ("long", LONG)] {
+        let light = inputs::light(count, span.clone(), random);
+        let full = inputs::full(count, span, random);
+        time_plan(name, &light);
+        time_plan(name, &full);
+        time_plan(name, &inputs::refused(&full));
+    }
+}
+
+fn time_plan(validities: &str, table: &Table) {
+    let outcome = match same_plan(table) {
+        Ok(plan) => format!("load {:.2}", inputs::load(&plan)),
+        Err(verdict) => format!("refusal {}", verdict.number),
+    };
+    let mut rust = || {
+        for _ in 0..PLANS {
+            black_box(&plan(black_box(table)));
+        }
+    };
+    let mut library = || {
+        for _ in 0..PLANS {
+            black_box(&ffi::plan_table(black_box(table)));
+        }
+    };
+    let times = compare(PLANS, &mut rust, &mut library);
+    print_line(
+        "plan",
+        table.count,
+        &format!("{validities} validities, {outcome}"),
+        &times,
+    );
+}
+
+/// The plan or refusal that both sides give. Stops the program if they differ.
+fn same_plan(table: &Table) -> Result<Plan, Verdict> {
+    let ours = plan(table).map_err(|refusal| refusal.verdict());
+    let theirs = ffi::plan_table(table);
+    let expected = match ours {
+        Ok(plan) => (Verdict::default(), plan),
+        Err(verdict) => (verdict, Plan::default()),
+    };
+    assert!(expected == (theirs.verdict, theirs.plan), "the plans differ");
+    ours
+}
+
+fn slots(count: usize, random: &mut Random) {
+    let table = inputs::short_jobs(count, random);
+    time_slot("short jobs", &table, 0, random);
+    time_slot("overload", &table, 30, random);
+}
+
+fn time_slot(name: &str, table: &Table, percent_stolen: u32, random: &mut Random) {
+    let run = inputs::under_way(table, percent_stolen, random);
+    let flags = inputs::stolen(SLOTS, percent_stolen, random);
+    same_slots(&run, &flags);
+    same_refusals(&run);
+    let c_run = c_form(&run);
+    let mut rust = || {
+        let mut run = *black_box(&run);
+        for &flag in &flags {
+            black_box(checked_slot(black_box(&mut run), flag != 0)).expect("a run state");
+        }
+    };
+    let mut library = || {
+        let mut run = *black_box(&c_run);
+        for &flag in &flags {
+            black_box(ffi::slot(black_box(&mut run), flag != 0));
+        }
+    };
+    let times = compare(SLOTS, &mut rust, &mut library);
+    print_line("slot", table.count, &run_input(name, table, percent_stolen), &times);
+}
+
+/// Stops the program unless both sides are in the same state after each of the slots.
+fn same_slots(run: &Run, flags: &[u8]) {
+    let (mut ours, mut theirs) = (*run, c_form(run));
+    for &flag in flags {
+        checked_slot(&mut ours, flag != 0).expect("a run state");
+        assert!(ffi::slot(&mut theirs, flag != 0) == Verdict::default(), "refused");
+        assert!(c_form(&ours) == theirs, "the runs differ after a slot");
+    }
+}
+
+/// Stops the program unless both sides give refusal 13 to each damaged form of the run, and leave it alone.
+fn same_refusals(run: &Run) {
+    let damages: [fn(&mut Run); 6] = [
+        |run| run.count = 0,
+        |run| run.rows[0].planned.cost = 0,
+        |run| run.rows[run.count - 1].planned.deadline += 1,
+        |run| run.rows[0].next = run.clock.wrapping_add(run.rows[0].planned.period),
+        |run| run.rows[0].left = run.rows[0].planned.cost + 1,
+        |run| run.rows[0].stored = run::Stored::Held(run.clock.wrapping_add(1)),
+    ];
+    for damage in damages {
+        let mut ours = *run;
+        damage(&mut ours);
+        let (damaged, mut theirs) = (ours, c_form(&ours));
+        let refusal = checked_slot(&mut ours, false).expect_err("a damaged run");
+        assert!(
+            ffi::slot(&mut theirs, false) == refusal.verdict(),
+            "the refusals differ"
+        );
+        assert!(
+            ours == damaged && theirs == c_form(&damaged),
+            "a refused run was changed"
+        );
+    }
+}
+
+fn advances(count: usize, random: &mut Random) {
+    let short = inputs::short_jobs(count, random);
+    let long = inputs::full(count, LONG, random);
+    let idle = inputs::idle(count, LONGEST, random);
+    time_advance("short jobs", &short, 0, random);
+    time_advance("long jobs", &long, 0, random);
+    time_advance("overload", &short, 30, random);
+    time_advance("long periods", &idle, 0, random);
+}
+
+fn time_advance(name: &str, table: &Table, percent_stolen: u32, random: &mut Random) {
+    let run = inputs::under_way(table, percent_stolen, random);
+    let flags = inputs::stolen(ADVANCE, percent_stolen, random);
+    same_advance(&run, &flags);
+    let c_run = c_form(&run);
+    let mut one_pass = || {
+        let mut run = *black_box(&run);
+        black_box(advance_in_one_pass(black_box(&mut run), &flags)).expect("a run state");
+    };
+    let mut three_passes = || {
+        let mut run = *black_box(&run);
+        black_box(advance_in_three_passes(black_box(&mut run), &flags)).expect("a run state");
+    };
+    let mut library = || {
+        black_box(&ffi::advance(black_box(&c_run), &flags));
+    };
+    let one = compare(ADVANCE, &mut one_pass, &mut library);
+    let three = compare(ADVANCE, &mut three_passes, &mut library);
+    let (passes, times) = faster(one, three);
+    let input = format!("{}, {passes}", run_input(name, table, percent_stolen));
+    print_line("advance", table.count, &input, &times);
+}
+
+/// Stops the program unless both sides, and both ways in Rust, end in the same state.
+fn same_advance(run: &Run, flags: &[u8]) {
+    let (mut one, mut three) = (*run, *run);
+    advance_in_one_pass(&mut one, flags).expect("a run state");
+    advance_in_three_passes(&mut three, flags).expect("a run state");
+    let theirs = ffi::advance(&c_form(run), flags);
+    assert!(theirs.verdict == Verdict::default(), "refused");
+    assert!(one == three && c_form(&one) == theirs.run, "the runs differ");
+}
+
+fn faster(one: Outcome, three: Outcome) -> (&'static str, Outcome) {
+    if one.rust <= three.rust {
+        ("1 pass", one)
+    } else {
+        ("3 passes", three)
+    }
+}
+
+fn run_input(name: &str, table: &Table, percent_stolen: u32) -> String {
+    let load = inputs::load(&plan(table).expect("an accepted table"));
+    match percent_stolen {
+        0 => format!("{name}, load {load:.2}"),
+        _ => format!("{name} {load:.2}, {percent_stolen}% stolen"),
+    }
+}

@@ -1,4 +1,4 @@
-//! Tells the linker where libchannelfox.a is: CHANNELFOX_LIB_DIR, otherwise target/staticlib of the repository.
+//! Tells the linker where libchannelfox.a and libtiming.a are: CHANNELFOX_LIB_DIR, otherwise target/staticlib of the repository.
 
 use std::env;
 use std::path::PathBuf;
@@ -8,7 +8,9 @@ fn main() {
     println!("cargo:rerun-if-changed=build.rs");
     let folder = library_folder();
     println!("cargo:rustc-link-search=native={}", folder.display());
-    println!("cargo:rerun-if-changed={}", folder.join("libchannelfox.a").display());
+    for library in ["libchannelfox.a", "libtiming.a"] {
+        println!("cargo:rerun-if-changed={}", folder.join(library).display());
+    }
 }
 
 fn library_folder() -> PathBuf {

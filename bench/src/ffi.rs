@@ -1,4 +1,4 @@
-//! The part of the C interface, channelfox.h, that is timed. The only file with unsafe code.
+//! The part of the C interface, channelfox.h, that is timed, and the entry of libtiming.a. The only file with unsafe code.
 
 /// The rows of a table, a plan and a run: CHANNELFOX_ROWS.
 pub const ROWS: usize = 64;
@@ -82,6 +82,17 @@ pub struct RunAnswer {
     pub run: Run,
 }
 
+/// What timing_slots tells of a run: its clock, and numbers of one row.
+#[repr(C)]
+#[derive(Clone, Copy, PartialEq, Eq, Debug, Default)]
+pub struct Seen {
+    pub clock: u32,
+    pub next: u32,
+    pub left: u32,
+    pub sample: u32,
+    pub skips: u32,
+}
+
 impl Default for Plan {
     fn default() -> Plan {
         Plan {
@@ -96,6 +107,19 @@ extern "C" {
     fn channelfox_plan_table(table: Table) -> PlanAnswer;
     fn channelfox_slot(run: *mut Run, stolen: bool) -> Verdict;
     fn channelfox_advance(run: Run, stolen: *const u8, length: usize) -> RunAnswer;
+}
+
+#[link(name = "timing", kind = "static")]
+extern "C" {
+    fn timing_slots(
+        table: Table,
+        clock: u32,
+        firsts: *const u32,
+        count: usize,
+        stolen: *const u8,
+        length: usize,
+        place: u8,
+    ) -> Seen;
 }
 
 /// Plans a table.
@@ -117,4 +141,21 @@ pub fn slot(run: &mut Run, stolen: bool) -> Verdict {
 pub fn advance(run: &Run, stolen: &[u8]) -> RunAnswer {
     // Safety: the pointer goes with its length, and the bytes outlive the call.
     unsafe { channelfox_advance(*run, stolen.as_ptr(), stolen.len()) }
+}
+
+/// A run from its start, one checked slot in place for each byte.
+#[inline]
+pub fn slots_in_place(table: &Table, clock: u32, firsts: &[u32], stolen: &[u8], place: u8) -> Seen {
+    // Safety: each pointer goes with its length, and what it points to outlives the call.
+    unsafe {
+        timing_slots(
+            *table,
+            clock,
+            firsts.as_ptr(),
+            firsts.len(),
+            stolen.as_ptr(),
+            stolen.len(),
+            place,
+        )
+    }
 }

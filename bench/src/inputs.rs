@@ -160,6 +160,18 @@ pub fn under_way(table: &Table, percent_stolen: u32, random: &mut Random) -> Run
     run
 }
 
+/// A clock that wraps in a few slots.
+pub fn soon_to_wrap() -> u32 {
+    0u32.wrapping_sub(UNTIL_WRAP)
+}
+
+/// A first release for each object, in priority order.
+pub fn firsts(table: &Table, random: &mut Random) -> Vec<u32> {
+    let plan = plan(table).expect("an accepted table");
+    let rows = &plan.rows[..plan.count];
+    rows.iter().map(|row| random.below(row.period)).collect()
+}
+
 /// A flag for each slot: 1, it is stolen.
 pub fn stolen(slots: usize, percent: u32, random: &mut Random) -> Vec<u8> {
     (0..slots).map(|_| u8::from(random.below(100) < percent)).collect()

@@ -12,7 +12,8 @@ use ffi::{Plan, Table, Verdict};
 use inputs::{Random, LONG, LONGEST, SHORT};
 use measure::{compare, print_head, print_line, print_rule, Outcome};
 use plan::plan;
-use run::{advance_in_one_pass, advance_in_three_passes, c_form, checked_slot, Run};
+use run::{advance_in_one_pass, advance_in_three_passes, c_form, checked_slot, seen, start, Run};
+use run::{checked_slots_in_one_pass, checked_slots_in_three_passes};
 
 const COUNTS: [usize; 3] = [1, 8, 64];
 
@@ -22,6 +23,8 @@ const PLANS: usize = 16;
 const SLOTS: usize = 1_000;
 /// Slots of one call of advance.
 const ADVANCE: usize = 10_000;
+/// Checked slots in place of one call, from the start of a run.
+const IN_PLACE: usize = 10_000;
 
 fn main() {
     let mut random = Random(1);
@@ -35,6 +38,10 @@ fn main() {
     }
     print_rule();
     for count in COUNTS {
+        in_place(count, &mut random);
+    }
+    print_rule();
+    for count in COUNTS {
         advances(count, &mut random);
     }
     print_rule();
@@ -45,6 +52,8 @@ fn print_notes() {
     println!("plan:    the C entry takes the table and hands back the plan by value; Rust is lent the table.");
     println!("slot:    on every call the C entry converts the C form of the run to the library's own and back,");
     println!("         64 rows each way, whatever the count. Rust checks and changes its own form in place.");
+    println!("in place: running::slot_in_place in a loop within libtiming.a, {IN_PLACE} slots from the start of a run; each");
+    println!("         slot is checked on both sides. Rust is the faster of one pass and three passes over the rows.");
     println!(
         "advance: {ADVANCE} slots a call; both sides check once. Rust does plain slots, each over all rows, and is"
     );
@@ -160,6 +169,57 @@ fn same_refusals(run: &Run) {
             ours == damaged && theirs == c_form(&damaged),
             "a refused run was changed"
         );
+    }
+}
+
+fn in_place(count: usize, random: &mut Random) {
+    let table = inputs::short_jobs(count, random);
+    time_in_place("short jobs", &table, 0, random);
+    time_in_place("overload", &table, 30, random);
+}
+
+/// A run from its start through all flags: planning and starting are a part of a thousandth.
+fn time_in_place(name: &str, table: &Table, percent_stolen: u32, random: &mut Random) {
+    let clock = inputs::soon_to_wrap();
+    let firsts = inputs::firsts(table, random);
+    let flags = inputs::stolen(IN_PLACE, percent_stolen, random);
+    same_in_place(table, clock, &firsts, &flags);
+    let mut one_pass = || {
+        let mut run = started(black_box(table), clock, &firsts);
+        black_box(checked_slots_in_one_pass(&mut run, &flags)).expect("a run state");
+        black_box(seen(&run, 0));
+    };
+    let mut three_passes = || {
+        let mut run = started(black_box(table), clock, &firsts);
+        black_box(checked_slots_in_three_passes(&mut run, &flags)).expect("a run state");
+        black_box(seen(&run, 0));
+    };
+    let mut library = || {
+        black_box(ffi::slots_in_place(black_box(table), clock, &firsts, &flags, 0));
+    };
+    let one = compare(IN_PLACE, &mut one_pass, &mut library);
+    let three = compare(IN_PLACE, &mut three_passes, &mut library);
+    let (passes, times) = faster(one, three);
+    let input = format!("{}, {passes}", run_input(name, table, percent_stolen));
+    print_line("in place", table.count, &input, &times);
+}
+
+fn started(table: &Table, clock: u32, firsts: &[u32]) -> Run {
+    let plan = plan(table).expect("an accepted table");
+    let mut firsts = firsts.iter();
+    start(&plan, clock, |_| *firsts.next().expect("a first release for each object"))
+}
+
+/// Stops the program unless the same is seen of each row after all slots.
+fn same_in_place(table: &Table, clock: u32, firsts: &[u32], flags: &[u8]) {
+    let mut one = started(table, clock, firsts);
+    let mut three = one;
+    checked_slots_in_one_pass(&mut one, flags).expect("a run state");
+    checked_slots_in_three_passes(&mut three, flags).expect("a run state");
+    assert!(one == three, "the runs differ");
+    for place in 0..table.count as u8 {
+        let theirs = ffi::slots_in_place(table, clock, firsts, flags, place);
+        assert!(seen(&one, place) == theirs, "the rows differ");
     }
 }
 

@@ -52,6 +52,26 @@ pub fn checked_slot(run: &mut Run, stolen: bool) -> Result<(), Refusal> {
     Ok(())
 }
 
+/// One checked slot in place for each flag, each in one pass over the rows.
+#[inline(never)]
+pub fn checked_slots_in_one_pass(run: &mut Run, stolen: &[u8]) -> Result<(), Refusal> {
+    for &flag in stolen {
+        check(run)?;
+        slot_in_one_pass(run, flag != 0);
+    }
+    Ok(())
+}
+
+/// One checked slot in place for each flag, each in three passes over the rows.
+#[inline(never)]
+pub fn checked_slots_in_three_passes(run: &mut Run, stolen: &[u8]) -> Result<(), Refusal> {
+    for &flag in stolen {
+        check(run)?;
+        slot_in_three_passes(run, flag != 0);
+    }
+    Ok(())
+}
+
 /// Checks once, then one slot for each flag, each in one pass over the rows.
 #[inline(never)]
 pub fn advance_in_one_pass(run: &mut Run, stolen: &[u8]) -> Result<(), Refusal> {
@@ -197,6 +217,18 @@ fn well_under_way(row: &Row, clock: u32) -> bool {
         Stored::Empty | Stored::Lapsed => true,
     };
     row.next.wrapping_sub(clock) < row.planned.period && row.left <= row.planned.cost && in_hand && stored
+}
+
+/// What timing_slots tells of the row at the place.
+pub fn seen(run: &Run, place: u8) -> ffi::Seen {
+    let row = run.rows[usize::from(place) % ROWS];
+    ffi::Seen {
+        clock: run.clock,
+        next: row.next,
+        left: row.left,
+        sample: row.sample,
+        skips: row.skips,
+    }
 }
 
 /// The C form of a run.

@@ -26,25 +26,28 @@ const ADVANCE: usize = 10_000;
 /// Checked slots in place of one call, from the start of a run.
 const IN_PLACE: usize = 10_000;
 
+/// The parts, each with inputs of its own: the name, and what is done for a number of objects.
+const PARTS: [(&str, fn(usize, &mut Random)); 4] = [
+    ("plan", planner),
+    ("slot", slots),
+    ("in place", in_place),
+    ("advance", advances),
+];
+
+/// All parts, or those whose names are given.
 fn main() {
-    let mut random = Random(1);
+    let asked: Vec<String> = std::env::args().skip(1).collect();
     print_head();
-    for count in COUNTS {
-        planner(count, &mut random);
+    for (name, part) in PARTS {
+        if !asked.is_empty() && !asked.iter().any(|one| one == name) {
+            continue;
+        }
+        let mut random = Random(1);
+        for count in COUNTS {
+            part(count, &mut random);
+        }
+        print_rule();
     }
-    print_rule();
-    for count in COUNTS {
-        slots(count, &mut random);
-    }
-    print_rule();
-    for count in COUNTS {
-        in_place(count, &mut random);
-    }
-    print_rule();
-    for count in COUNTS {
-        advances(count, &mut random);
-    }
-    print_rule();
     print_notes();
 }
 

@@ -9,16 +9,18 @@
  *    2 more than 4,096 bytes                                0
  *    3 the mark is not 4D 4C                                0
  *    4 count 0 or above 64                                  0
- *    5 distance below 8 + 12 n or above the number of bytes 0
+ *    5 distance below 8 + 12 n                              0
  *    6 spare not zero                                       record
  *    7 cost outside 1 to 1,000,000                          record
  *    8 validity outside 2 to 1,000,000                      record
  *    9 id equal to an earlier record's                      record
- *   10 some object has no deadline                          0
+ *   10 an object has no deadline                            place in priority order of the first such object
  *   11 the number of first releases is not n                0
  *   12 a first release not below its object's period        place in priority order
  *   13 not a run state                                      0
  *   14 no object with that id                               0
+ *   15 distance above the number of bytes                   0
+ * The stored table is checked for 1 to 5, then 15, then 6 to 9 record by record.
  */
 #ifndef CHANNELFOX_H
 #define CHANNELFOX_H
@@ -114,7 +116,7 @@ typedef struct {
     size_t length;
 } channelfox_part;
 
-/* Reads a stored table. Refusals 1 to 9, with count 0 and every field zero. Rows beyond the count are zero. */
+/* Reads a stored table. Refusals 1 to 9 and 15, with count 0 and every field zero. Rows beyond the count are zero. */
 channelfox_read_answer channelfox_read(const uint8_t *bytes, size_t length);
 
 /* The second door: a list of rows in memory becomes a table. Refusals 4, 7, 8, 9, with count 0 and every field zero. */
@@ -128,7 +130,11 @@ channelfox_part channelfox_choose(const uint8_t *site, size_t site_length, const
  * not read; rows of the plan beyond its count are zero. */
 channelfox_plan_answer channelfox_plan_table(channelfox_table table);
 
-/* Reads a stored table and plans it: refusals 1 to 10. */
+/* The table with its rows in priority order, which the places told with 10 and 12 count; rows beyond the count are zero. A
+ * table that gets 4, 7, 8 or 9 gives count 0 and every field zero. */
+channelfox_table channelfox_ranked(channelfox_table table);
+
+/* Reads a stored table and plans it: refusals 1 to 10 and 15. */
 channelfox_plan_answer channelfox_plan_stored(const uint8_t *bytes, size_t length);
 
 /* Plans a table and starts a run of it at any clock, with one first release for each object, in priority order, counted

@@ -98,10 +98,14 @@ fn limits() {
     one(b"(500001,1000000)", 500001, 1000000);
 }
 
-// Ties.
+// Ties; of three objects the one in the middle, in priority order, has no deadline.
 fn ties() {
     two(b"(1,3), (1,4)", 1, 3, 1, 4);
     two(b"(1,3), (1,3)", 1, 3, 1, 3);
+    plan_case(
+        b"(1,100), (1,3), (1,3)",
+        table(3, row(1, 1, 100), row(2, 1, 3), row(3, 1, 3)),
+    );
     two(b"id 1 (1,10), id 2 (3,10)", 1, 10, 3, 10);
 }
 

@@ -4,6 +4,7 @@ mod forms;
 
 ghost use mathlib.Core.Path.{_≡_};
 ghost use Rattle.rules.specs.StoredTable.{readOf, doorOf, chosenPart};
+ghost use Rattle.rules.specs.Order.{rankedOf};
 ghost use Rattle.rules.specs.Deadlines.{planOf};
 ghost use Rattle.rules.specs.Run.{startOf};
 ghost use Rattle.channelfox.specs.Forms.{readForm, planForm, startedForm, steppedForm, plannedStored, noForm, slotForm, advanceForm, readingForm, readValueForm, partForm};
@@ -178,6 +179,13 @@ pub extern "C" fn channelfox_plan_table(table: Table) -> CPlanAnswer
     ensures { λ r. ⌜ r ≡ planForm (planOf table) ⌝ }
 {
     plan_form(planning::plan_table(table))
+}
+
+#[no_mangle]
+pub extern "C" fn channelfox_ranked(table: Table) -> Table
+    ensures { λ r. ⌜ r ≡ rankedOf table ⌝ }
+{
+    planning::ranked(table)
 }
 
 // A refused read is a refused plan; the empty table of a refused read is not planned.

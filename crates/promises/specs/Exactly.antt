@@ -1,5 +1,5 @@
--- Demand 2 on plans: a well-formed table is refused exactly if some object has no deadline within half its validity, and then with 10;
--- otherwise each deadline is the smallest number of slots that balances, and the period is validity minus deadline. Assumes nothing.
+-- Demand 2 on plans: a well-formed table is refused exactly if some object has no deadline within half its validity, and then with 10 and the
+-- place of the first such object; otherwise each deadline is the smallest number of slots that balances, and the period is validity minus deadline. Assumes nothing.
 use Prim.Native.Nat.{ℕ, zero, suc, _+_, _-_, _*_, _/_, _≤_, _<_}
 use mathlib.Core.Path.{_≡_, refl, sym, ap, ap₂, _∙_, subst}
 use mathlib.Core.Logic.{_↔_, _⊎_, inl, inr}
@@ -15,7 +15,8 @@ use Rattle.rules.specs.declared.Refusal.{Refusal}
 use Rattle.rules.specs.declared.Refusal.the-variants.{NoDeadline}
 use Rattle.rules.specs.declared.Verdict.{Verdict}
 use Rattle.rules.specs.declared.Verdict.the-variants.{Accepted, Refused}
-use Rattle.rules.specs.StoredTable.{tableVerdict}
+use lib.ListN.{length, take, getD, length-append}
+use Rattle.rules.specs.StoredTable.{noRow, tableVerdict}
 use Rattle.rules.specs.Order.{inOrder}
 use Rattle.rules.specs.Deadlines.{needOf, deadlineOf, planRow, refusedPlan, acceptedPlan, withDeadline, planFrom, onAccepted, planOf}
 use Rattle.rules.proofs.Balance.{found, missed}
@@ -36,10 +37,12 @@ pub data PlannedAs : List PlanRow → List ObjectRow → List PlanRow → Type 0
   done : {ahead : List PlanRow} → PlannedAs ahead [] []
   next : {ahead : List PlanRow} {r : ObjectRow} {rs : List ObjectRow} {plans : List PlanRow} (t : ℕ) → IsDeadline ahead r t → PlannedAs (ahead ++ (planRow r t ∷ [])) rs plans → PlannedAs ahead (r ∷ rs) (planRow r t ∷ plans)
 
--- some object has no deadline, and all those ahead of it have theirs
-pub data SomeHasNone : List PlanRow → List ObjectRow → Type 0 where
-  here : {ahead : List PlanRow} {r : ObjectRow} {rs : List ObjectRow} → HasNone ahead r → SomeHasNone ahead (r ∷ rs)
-  behind : {ahead : List PlanRow} {r : ObjectRow} {rs : List ObjectRow} (t : ℕ) → IsDeadline ahead r t → SomeHasNone (ahead ++ (planRow r t ∷ [])) rs → SomeHasNone ahead (r ∷ rs)
+-- the first object without a deadline, among rows in priority order behind those of `ahead`, is at the place k: all those before it have theirs, and it has none
+pub record FirstWithout (ahead : List PlanRow) (rs : List ObjectRow) (k : ℕ) : Type 0 where
+  pub plans : List PlanRow
+  pub others-have : PlannedAs ahead (take k rs) plans
+  pub inside : k < length rs
+  pub it-has-none : HasNone (ahead ++ plans) (getD rs k noRow)
 
 -- ── One object ──
 
@@ -66,9 +69,20 @@ not-both {ahead} {r} {t} p n = n t (p .one) (p .half) (p .balances)
 
 -- ── The rows in priority order ──
 
--- the plan, or the refusal
+-- the plan, or the refusal with its place
 abbrev Answer : List PlanRow → List ObjectRow → Planned → Type 0
-Answer ahead rs x = ((plans : List PlanRow) × PlannedAs ahead rs plans × (x ≡ acceptedPlan (ahead ++ plans))) ⊎ (SomeHasNone ahead rs × (x ≡ refusedPlan NoDeadline 0))
+Answer ahead rs x =
+    ((plans : List PlanRow) × PlannedAs ahead rs plans × (x ≡ acceptedPlan (ahead ++ plans)))
+    ⊎ ((k : ℕ) × FirstWithout ahead rs k × (x ≡ refusedPlan NoDeadline (length ahead + k)))
+
+-- an object that is the first without a deadline behind a row is so, one place further, behind the rows ahead of that row
+first-behind : (ahead : List PlanRow) (r : ObjectRow) (rs : List ObjectRow) (t k : ℕ) → IsDeadline ahead r t → FirstWithout (ahead ++ (planRow r t ∷ [])) rs k → FirstWithout ahead (r ∷ rs) (suc k)
+first-behind ahead r rs t k d f = record {
+  plans = planRow r t ∷ f .plans;
+  others-have = next t d (f .others-have);
+  inside = omega (arith, f .inside);
+  it-has-none = rw (append-assoc ahead (planRow r t ∷ []) (f .plans)) at (f .it-has-none);
+}
 
 -- which of the two it is, is settled by the deadlines
 planned-or-none : (ahead : List PlanRow) (rs : List ObjectRow) → Answer ahead rs (planFrom ahead rs)
@@ -76,21 +90,59 @@ planned-or-none ahead [] = inl ([], done, rw append-nil)
 planned-or-none ahead (r ∷ rs) = by-deadline (deadlineOf ahead (r .cost) (r .validity)) refl (λ t. planned-or-none (ahead ++ (planRow r t ∷ [])) rs)
   where
     by-deadline : (d : Option ℕ) → deadlineOf ahead (r .cost) (r .validity) ≡ d → ((t : ℕ) → Answer (ahead ++ (planRow r t ∷ [])) rs (planFrom (ahead ++ (planRow r t ∷ [])) rs))
-        → Answer ahead (r ∷ rs) (withDeadline d (λ t. planFrom (ahead ++ (planRow r t ∷ [])) rs) (refusedPlan NoDeadline 0))
-    by-deadline none e others = inr (here (has-none ahead r e), refl)
+        → Answer ahead (r ∷ rs) (withDeadline d (λ t. planFrom (ahead ++ (planRow r t ∷ [])) rs) (refusedPlan NoDeadline (length ahead)))
+    by-deadline none e others =
+        let first : FirstWithout ahead (r ∷ rs) 0 = record { plans = []; others-have = done; inside = omega arith; it-has-none = rw append-nil (has-none ahead r e) } in
+        let place : length ahead ≡ length ahead + 0 = omega arith in
+        inr (0, first, ap (refusedPlan NoDeadline) place)
     by-deadline (some t) e others = elim (others t) [
       | inl p ↦ inl (planRow r t ∷ p .0, next t (is-deadline ahead r t e) (p .1), rw (append-assoc ahead (planRow r t ∷ []) (p .0)) at (p .2))
-      | inr p ↦ inr (behind t (is-deadline ahead r t e) (p .0), p .1)
+      | inr p ↦ (let place : length (ahead ++ (planRow r t ∷ [])) + p .0 ≡ length ahead + suc (p .0) = simp length-append (omega arith) in inr (suc (p .0), first-behind ahead r rs t (p .0) (is-deadline ahead r t e) (p .1), rw place at (p .2)))
     ]
 
 -- a deadline in place of an equal one
 moved : (ahead : List PlanRow) (r : ObjectRow) {rs : List ObjectRow} {plans : List PlanRow} {s t : ℕ} → s ≡ t → PlannedAs (ahead ++ (planRow r s ∷ [])) rs plans → PlannedAs (ahead ++ (planRow r t ∷ [])) rs plans
 moved ahead r {rs} {plans} = subst (λ (u : ℕ). PlannedAs (ahead ++ (planRow r u ∷ [])) rs plans)
 
+-- the rows behind the first: where the first of them without a deadline is
+others : {ahead : List PlanRow} {r : ObjectRow} {rs : List ObjectRow} {t k : ℕ} → IsDeadline ahead r t → FirstWithout ahead (r ∷ rs) (suc k) → FirstWithout (ahead ++ (planRow r t ∷ [])) rs k
+others {ahead} {r} {rs} {t} {k} d f = step (f .plans) (f .others-have) (f .it-has-none)
+  where
+    step : (plans : List PlanRow) → PlannedAs ahead (r ∷ take k rs) plans → HasNone (ahead ++ plans) (getD rs k noRow) → FirstWithout (ahead ++ (planRow r t ∷ [])) rs k
+    step (q ∷ qs) (next s e p) n = record {
+      plans = qs;
+      others-have = moved ahead r (one-deadline e d) p;
+      inside = omega (arith, f .inside);
+      it-has-none = rw (append-assoc ahead (planRow r t ∷ []) qs) (rw (one-deadline e d) at n);
+    }
+
+-- the first object itself is without one
+at-once : {ahead : List PlanRow} {r : ObjectRow} {rs : List ObjectRow} → FirstWithout ahead (r ∷ rs) 0 → HasNone ahead r
+at-once {ahead} {r} f = step (f .plans) (f .others-have) (f .it-has-none)
+  where
+    step : (plans : List PlanRow) → PlannedAs ahead [] plans → HasNone (ahead ++ plans) r → HasNone ahead r
+    step [] done n = rw append-nil at n
+
+-- the first object has one
+has-one : {ahead : List PlanRow} {r : ObjectRow} {rs : List ObjectRow} {k : ℕ} → FirstWithout ahead (r ∷ rs) (suc k) → (t : ℕ) × IsDeadline ahead r t
+has-one {ahead} {r} {rs} {k} f = step (f .plans) (f .others-have)
+  where
+    step : (plans : List PlanRow) → PlannedAs ahead (r ∷ take k rs) plans → (t : ℕ) × IsDeadline ahead r t
+    step (q ∷ qs) (next s e p) = (s, e)
+
 -- the rows are not planned and refused
-clash : {ahead : List PlanRow} {rs : List ObjectRow} {plans : List PlanRow} → PlannedAs ahead rs plans → SomeHasNone ahead rs → ⊥
-clash (next t d p) (here n) = not-both d n
-clash {ahead} (next {r = r} t d p) (behind s e q) = clash (moved ahead r (one-deadline d e) p) q
+clash : {ahead : List PlanRow} {rs : List ObjectRow} {plans : List PlanRow} (k : ℕ) → PlannedAs ahead rs plans → FirstWithout ahead rs k → ⊥
+clash k done f = absurd (omega (arith, f .inside))
+clash zero (next t d p) f = not-both d (at-once f)
+clash (suc k) (next t d p) f = clash k p (others d f)
+
+-- nor is the first without a deadline at two places
+one-place : {ahead : List PlanRow} {rs : List ObjectRow} (j k : ℕ) → FirstWithout ahead rs j → FirstWithout ahead rs k → j ≡ k
+one-place {rs = []} j k f g = absurd (omega (arith, f .inside))
+one-place {rs = r ∷ rs} zero zero f g = refl
+one-place {rs = r ∷ rs} zero (suc k) f g = absurd (not-both (has-one g .1) (at-once f))
+one-place {rs = r ∷ rs} (suc j) zero f g = absurd (not-both (has-one f .1) (at-once g))
+one-place {rs = r ∷ rs} (suc j) (suc k) f g = let d = has-one f .1 in ap suc (one-place j k (others d f) (others d g))
 
 -- nor planned in two ways
 pub one-plan : {ahead : List PlanRow} {rs : List ObjectRow} {ps qs : List PlanRow} → PlannedAs ahead rs ps → PlannedAs ahead rs qs → ps ≡ qs
@@ -105,25 +157,31 @@ module _ (table : Table) (well-formed : tableVerdict table ≡ Accepted) where
   settled : planOf table ≡ planFrom [] (inOrder (table .rows) (table .count))
   settled = rw well-formed
 
-  -- refused exactly if some object has no deadline, and then with 10
-  pub refused-exactly : (planOf table .verdict ≡ Refused NoDeadline 0) ↔ SomeHasNone [] (inOrder (table .rows) (table .count))
-  refused-exactly = elim (planned-or-none [] (inOrder (table .rows) (table .count))) [
-    | inl p ↦ (λ e. (let z : _≡_ {A = ℕ} 0 1 = cc (settled, p .2) in absurd (omega arith)), λ q. absurd (clash (p .1) q))
-    | inr p ↦ (λ e. p .0, λ q. ap (λ (x : Planned). x .verdict) (settled ∙ p .1))
+  refused-at : (k : ℕ) → planFrom [] (inOrder (table .rows) (table .count)) ≡ refusedPlan NoDeadline (0 + k) → planOf table ≡ refusedPlan NoDeadline k
+  refused-at k e = let z : 0 + k ≡ k = omega arith in settled ∙ (e ∙ ap (refusedPlan NoDeadline) z)
+
+  -- refused with 10 at a place exactly if the object there is the first without a deadline
+  pub refused-exactly : (k : ℕ) → (planOf table .verdict ≡ Refused NoDeadline k) ↔ FirstWithout [] (inOrder (table .rows) (table .count)) k
+  refused-exactly k = elim (planned-or-none [] (inOrder (table .rows) (table .count))) [
+    | inl p ↦ (λ e. (let z : _≡_ {A = ℕ} 0 1 = cc (settled, p .2) in absurd (omega arith)), λ q. absurd (clash k (p .1) q))
+    | inr p ↦ (
+      λ e. (let z : p .0 ≡ k = cc (refused-at (p .0) (p .2)) in subst (FirstWithout [] (inOrder (table .rows) (table .count))) z (p .1)),
+      λ q. ap (λ (x : Planned). x .verdict) (refused-at (p .0) (p .2)) ∙ ap (Refused NoDeadline) (one-place (p .0) k (p .1) q),
+    )
   ]
 
   -- planned exactly as the deadlines say
   pub planned-exactly : (plans : List PlanRow) → PlannedAs [] (inOrder (table .rows) (table .count)) plans → planOf table ≡ acceptedPlan plans
   planned-exactly plans q = elim (planned-or-none [] (inOrder (table .rows) (table .count))) [
     | inl p ↦ settled ∙ (p .2 ∙ ap acceptedPlan (one-plan (p .1) q))
-    | inr p ↦ absurd (clash q (p .0))
+    | inr p ↦ absurd (clash (p .0) q (p .1))
   ]
 
   -- there is no third answer
-  pub planned-or-refused : ((plans : List PlanRow) × PlannedAs [] (inOrder (table .rows) (table .count)) plans × (planOf table ≡ acceptedPlan plans)) ⊎ (planOf table ≡ refusedPlan NoDeadline 0)
+  pub planned-or-refused : ((plans : List PlanRow) × PlannedAs [] (inOrder (table .rows) (table .count)) plans × (planOf table ≡ acceptedPlan plans)) ⊎ ((k : ℕ) × FirstWithout [] (inOrder (table .rows) (table .count)) k × (planOf table ≡ refusedPlan NoDeadline k))
   planned-or-refused = elim (planned-or-none [] (inOrder (table .rows) (table .count))) [
     | inl p ↦ inl (p .0, p .1, settled ∙ p .2)
-    | inr p ↦ inr (settled ∙ p .1)
+    | inr p ↦ inr (p .0, p .1, refused-at (p .0) (p .2))
   ]
 
 -- a table that is not well-formed is refused with the number and place of its first fault

@@ -1,24 +1,25 @@
--- Two tables that agree on an object and all objects ahead of it give that object the same deadline and period, where both are planned.
--- Assumes nothing.
-use Prim.Native.Nat.{ℕ, zero, suc, _-_}
-use mathlib.Core.Path.{_≡_, refl, sym, ap, ap₂, subst}
+-- Two tables that agree on an object and all objects ahead of it give that object the same deadline and period, where both are planned, and
+-- where the object has no deadline both are refused at it. Assumes nothing.
+use Prim.Native.Nat.{ℕ, zero, suc, _-_, _<_, min}
+use mathlib.Core.Path.{_≡_, refl, sym, ap, ap₂, _∙_, subst}
 use mathlib.Core.Logic.{inl, inr}
 use mathlib.Core.List.{List, [], _∷_, _++_}
 use native.Mathlib.Omega.{arith}
-use lib.ListN.{length, take, replicate}
-use lib.Seq.{take-append-seam}
+use lib.ListN.{length, take, getD, replicate, length-take}
+use lib.Seq.{take-append-seam, take-take, getD-take}
 use Rattle.rules.specs.declared.ObjectRow.{ObjectRow}
 use Rattle.rules.specs.declared.PlanRow.{PlanRow}
 use Rattle.rules.specs.declared.Plan.{Plan}
 use Rattle.rules.specs.declared.Planned.{Planned}
 use Rattle.rules.specs.declared.Table.{Table}
 use Rattle.rules.specs.declared.Refusal.{Refusal}
+use Rattle.rules.specs.declared.Refusal.the-variants.{NoDeadline}
 use Rattle.rules.specs.declared.Verdict.{Verdict}
 use Rattle.rules.specs.declared.Verdict.the-variants.{Accepted, Refused}
-use Rattle.rules.specs.StoredTable.{tableVerdict}
+use Rattle.rules.specs.StoredTable.{noRow, tableVerdict}
 use Rattle.rules.specs.Order.{inOrder}
 use Rattle.rules.specs.Deadlines.{planRow, noPlanRow, acceptedPlan, refusedPlan, onAccepted, planFrom, planOf, plannedRows}
-use Rattle.promises.specs.Exactly.{PlannedAs, planned-or-refused, one-deadline, IsDeadline}
+use Rattle.promises.specs.Exactly.{PlannedAs, FirstWithout, refused-exactly, planned-or-refused, one-deadline, IsDeadline}
 use Rattle.promises.specs.Exactly.PlannedAs.{done, next}
 
 -- rows that agree up to k are planned alike up to k
@@ -43,7 +44,7 @@ planned-as table e = by-verdict (tableVerdict table) refl
     by-verdict (Refused r k) w = let z : _≡_ {A = ℕ} 0 1 = cc (w) in absurd (omega arith)
     by-verdict Accepted w = elim (planned-or-refused table w) [
       | inl p ↦ (let s : plannedRows (planOf table .plan) ≡ p .0 = rw (p .2) (take-append-seam (p .0) (replicate (64 - length (p .0)) noPlanRow)) in rw s (p .1))
-      | inr p ↦ (let z : _≡_ {A = ℕ} 0 1 = cc (ap (λ (x : Planned). x .verdict) p) in absurd (omega arith))
+      | inr p ↦ (let z : _≡_ {A = ℕ} 0 1 = cc (ap (λ (x : Planned). x .verdict) (p .2)) in absurd (omega arith))
     ]
 
 -- ── The promise ──
@@ -53,3 +54,17 @@ pub same-ahead-same-plan : (t t′ : Table) → planOf t .verdict ≡ Accepted �
     → take k (inOrder (t .rows) (t .count)) ≡ take k (inOrder (t′ .rows) (t′ .count))
     → take k (plannedRows (planOf t .plan)) ≡ take k (plannedRows (planOf t′ .plan))
 same-ahead-same-plan t t′ a a′ k e = agree k (planned-as t a) (planned-as t′ a′) e
+
+-- the first k objects agree, and one of them is the first without a deadline: so it is in the other table
+pub same-ahead-same-refusal : (t t′ : Table) → tableVerdict t ≡ Accepted → tableVerdict t′ ≡ Accepted → (k j : ℕ) → j < k
+    → take k (inOrder (t .rows) (t .count)) ≡ take k (inOrder (t′ .rows) (t′ .count))
+    → planOf t .verdict ≡ Refused NoDeadline j → planOf t′ .verdict ≡ Refused NoDeadline j
+same-ahead-same-refusal t t′ w w′ k j h e refused =
+    let rs = inOrder (t .rows) (t .count) in
+    let rs′ = inOrder (t′ .rows) (t′ .count) in
+    let f = refused-exactly t w j .0 refused in
+    let before : take j rs ≡ take j rs′ = sym (take-take j k rs (omega arith)) ∙ (ap (take j) e ∙ take-take j k rs′ (omega arith)) in
+    let it : getD rs j noRow ≡ getD rs′ j noRow = sym (getD-take k rs j noRow h) ∙ (ap (λ l. getD l j noRow) e ∙ getD-take k rs′ j noRow h) in
+    let n : length (take k rs) ≡ length (take k rs′) = ap length e in
+    let n′ : min k (length rs) ≡ min k (length rs′) = simp length-take at n in
+    refused-exactly t′ w′ j .1 (record { plans = f .plans; others-have = rw before at (f .others-have); inside = omega (arith, f .inside, n′); it-has-none = rw it at (f .it-has-none) })

@@ -30,7 +30,7 @@ fn start(table: Table, slots: usize, firsts: List, stolen: &[u8]) {
     let started = words::started(table, firsts);
     let verdict = started.verdict;
     match verdict {
-        Verdict::Refused(refusal, place) => refusals::print(refusal, place),
+        Verdict::Refused(refusal, place) => refusals::print_start(table, refusal, place),
         Verdict::Accepted => {
             let run = started.run;
             show(run, slots, stolen);

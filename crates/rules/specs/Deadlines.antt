@@ -71,13 +71,14 @@ abbrev pub withDeadline : {A : Type 0} → Option ℕ → (ℕ → A) → A → 
 withDeadline (some d) f z = f d
 withDeadline none f z = z
 
--- "If no such t exists for some object, the table gets refusal 10": the rows, in priority order, are planned one by one, each after those ahead of it
+-- "If no such t exists for some object, the table gets refusal 10", with "the place in priority order of the first object without a deadline":
+-- the rows, in priority order, are planned one by one, each after those ahead of it, and the place is how many are ahead
 abbrev pub planFrom : List PlanRow → List ObjectRow → Planned
 planFrom ahead [] = acceptedPlan ahead
 planFrom ahead (r ∷ rs) =
     withDeadline (deadlineOf ahead (r .cost) (r .validity))
     (λ d. planFrom (ahead ++ (planRow r d ∷ [])) rs)
-    (refusedPlan NoDeadline 0)
+    (refusedPlan NoDeadline (length ahead))
 
 -- what follows where the rows are in order
 abbrev pub onAccepted : Verdict → Planned → Planned

@@ -44,10 +44,12 @@ table =
     ∷ record { rows = row 1 1 8 ∷ row 2 1 10 ∷ row 3 1 12 ∷ []; answer = planned ((1, 1, 7) ∷ (2, 2, 8) ∷ (3, 3, 9) ∷ []) }
     -- 002, Figure 2, and with 12 made 11
     ∷ record { rows = row 1 2 8 ∷ row 2 2 10 ∷ row 3 2 12 ∷ []; answer = planned ((1, 2, 6) ∷ (2, 4, 6) ∷ (3, 6, 6) ∷ []) }
-    ∷ record { rows = row 1 2 8 ∷ row 2 2 10 ∷ row 3 2 11 ∷ []; answer = refused 10 0 }
+    ∷ record { rows = row 1 2 8 ∷ row 2 2 10 ∷ row 3 2 11 ∷ []; answer = refused 10 2 }
     ∷ record { rows = row 1 1 2 ∷ []; answer = planned ((1, 1, 1) ∷ []) }
     ∷ record { rows = row 1 1 3 ∷ row 2 1 4 ∷ []; answer = planned ((1, 1, 2) ∷ (2, 2, 2) ∷ []) }
-    ∷ record { rows = row 1 1 3 ∷ row 2 1 3 ∷ []; answer = refused 10 0 }
+    ∷ record { rows = row 1 1 3 ∷ row 2 1 3 ∷ []; answer = refused 10 1 }
+    -- the place is that of the first object without a deadline in priority order, not in the order of the rows, and not the last place
+    ∷ record { rows = row 3 1 100 ∷ row 1 1 3 ∷ row 2 1 3 ∷ []; answer = refused 10 1 }
     -- equal validity: the larger cost first
     ∷ record { rows = row 1 1 10 ∷ row 2 3 10 ∷ []; answer = planned ((2, 3, 7) ∷ (1, 4, 6) ∷ []) }
     -- no rows; more than 64 of them, bad ones; a row that breaks 7 and 8; one that breaks 8 and 9; a later row that breaks 7 behind one that breaks 9
@@ -87,7 +89,9 @@ storedTable =
     ∷ record { bytes = trailer 8 65; refusal = (4, 0) }
     ∷ record { bytes = stored 1 0 1 4 ++ trailer 19 1; refusal = (5, 0) }
     ∷ record { bytes = stored 1 0 1 4 ++ trailer 20 1; refusal = (0, 0) }
-    ∷ record { bytes = stored 1 0 1 4 ++ trailer 21 1; refusal = (5, 0) }
+    ∷ record { bytes = stored 1 0 1 4 ++ trailer 21 1; refusal = (15, 0) }
+    -- a distance too small for the count and above the number of bytes
+    ∷ record { bytes = stored 1 0 1 4 ++ trailer 21 2; refusal = (5, 0) }
     -- a gap before the record and one behind it
     ∷ record { bytes = 9 ∷ stored 1 0 1 4 ++ 9 ∷ trailer 21 1; refusal = (0, 0) }
     -- a record that breaks 6 and 7, behind a good one; one that breaks 7 ahead of one that breaks 6

@@ -2,7 +2,7 @@
 -- Assumes nothing.
 use Prim.Native.Nat.{ℕ}
 use Rattle.rules.specs.declared.Refusal.{Refusal}
-use Rattle.rules.specs.declared.Refusal.the-variants.{TooShort, TooLong, WrongMark, CountRange, DistanceRange, SpareUsed, CostRange, ValidityRange, IdRepeated, NoDeadline, FirstsCount, FirstRange, NotRunState, NoSuchId}
+use Rattle.rules.specs.declared.Refusal.the-variants.{TooShort, TooLong, WrongMark, CountRange, DistanceSmall, SpareUsed, CostRange, ValidityRange, IdRepeated, NoDeadline, FirstsCount, FirstRange, NotRunState, NoSuchId, DistanceLarge}
 use Rattle.rules.specs.declared.Verdict.{Verdict}
 use Rattle.rules.specs.declared.Verdict.the-variants.{Accepted, Refused}
 
@@ -12,7 +12,7 @@ numberOf TooShort = 1
 numberOf TooLong = 2
 numberOf WrongMark = 3
 numberOf CountRange = 4
-numberOf DistanceRange = 5
+numberOf DistanceSmall = 5
 numberOf SpareUsed = 6
 numberOf CostRange = 7
 numberOf ValidityRange = 8
@@ -22,6 +22,7 @@ numberOf FirstsCount = 11
 numberOf FirstRange = 12
 numberOf NotRunState = 13
 numberOf NoSuchId = 14
+numberOf DistanceLarge = 15
 
 -- "Order: 1 to 5 as numbered. Then the records": what is checked later counts only where nothing was refused before
 abbrev pub firstRefusal : Verdict → Verdict → Verdict

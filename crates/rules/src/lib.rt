@@ -66,13 +66,13 @@ pub struct Run {
     pub rows: [RunRow; 64],
 }
 
-// Why something is refused, one case for each number of document 01.
+// Why something is refused, one case for each number of document 01 and of the requests that landed.
 pub enum Refusal {
     TooShort,
     TooLong,
     WrongMark,
     CountRange,
-    DistanceRange,
+    DistanceSmall,
     SpareUsed,
     CostRange,
     ValidityRange,
@@ -82,6 +82,7 @@ pub enum Refusal {
     FirstRange,
     NotRunState,
     NoSuchId,
+    DistanceLarge,
 }
 
 // Accepted, or the refusal with its place.
@@ -129,7 +130,7 @@ pub struct Part {
     pub length: usize,
 }
 
-// The number of a refusal in document 01.
+// The number of a refusal.
 pub fn refusal_number(refusal: Refusal) -> u8
     ensures { λ r. ⌜ r ≡ numberOf refusal ⌝ }
 {
@@ -138,7 +139,7 @@ pub fn refusal_number(refusal: Refusal) -> u8
         Refusal::TooLong => 2,
         Refusal::WrongMark => 3,
         Refusal::CountRange => 4,
-        Refusal::DistanceRange => 5,
+        Refusal::DistanceSmall => 5,
         Refusal::SpareUsed => 6,
         Refusal::CostRange => 7,
         Refusal::ValidityRange => 8,
@@ -148,6 +149,7 @@ pub fn refusal_number(refusal: Refusal) -> u8
         Refusal::FirstRange => 12,
         Refusal::NotRunState => 13,
         Refusal::NoSuchId => 14,
+        Refusal::DistanceLarge => 15,
     }
 }
 

@@ -9,11 +9,11 @@ use lib.Dec.{eqb, ltb}
 use lib.ListN.{length}
 use Rattle.rules.specs.declared.Part.{Part}
 use Rattle.rules.specs.declared.Table.{Table}
-use Rattle.rules.specs.declared.Refusal.the-variants.{TooShort, TooLong, WrongMark, CountRange, DistanceRange}
+use Rattle.rules.specs.declared.Refusal.the-variants.{TooShort, TooLong, WrongMark, CountRange, DistanceSmall, DistanceLarge}
 use Rattle.rules.specs.declared.Verdict.{Verdict}
 use Rattle.rules.specs.declared.Verdict.the-variants.{Accepted, Refused}
 use Rattle.rules.specs.Refusals.{firstRefusal}
-use Rattle.rules.specs.StoredTable.{distanceOf, countOf, markOf, tableMark, countVerdict, distanceVerdict, trailerVerdict, answer, accepts, readVerdict, recordsPart, chosenPart}
+use Rattle.rules.specs.StoredTable.{distanceOf, countOf, markOf, tableMark, countVerdict, nearVerdict, farVerdict, distanceVerdict, trailerVerdict, answer, accepts, readVerdict, recordsPart, chosenPart}
 use Rattle.rules.proofs.Checks.{count-in, count-few, count-many, count-said, both-accept, test-passed, not-met}
 
 module _ (s : List ℕ) where
@@ -42,11 +42,11 @@ module _ (s : List ℕ) where
           counted : trailerVerdict s ≡ distanceVerdict s
           counted = marked ∙ rw (count-in (countOf s) some few)
 
-          pub too-near : distanceOf s < 8 + 12 * countOf s → trailerVerdict s ≡ Refused DistanceRange 0
+          pub too-near : distanceOf s < 8 + 12 * countOf s → trailerVerdict s ≡ Refused DistanceSmall 0
           too-near h = counted ∙ simp (lt-ltb (distanceOf s) (8 + 12 * countOf s) h)
 
           module _ (room : 8 + 12 * countOf s ≤ distanceOf s) where
-            pub too-far : length s < distanceOf s → trailerVerdict s ≡ Refused DistanceRange 0
+            pub too-far : length s < distanceOf s → trailerVerdict s ≡ Refused DistanceLarge 0
             too-far h = counted ∙ simp (le-ltb (distanceOf s) (8 + 12 * countOf s) room, lt-ltb (length s) (distanceOf s) h)
 
             pub in-order : distanceOf s ≤ length s → trailerVerdict s ≡ Accepted
@@ -68,8 +68,9 @@ readable s e =
     let e3 = test-passed (eqb (markOf s) tableMark) WrongMark 0 _ (e2 .1) in
     let e4 = both-accept (countVerdict (countOf s)) (distanceVerdict s) (e3 .1) in
     let n = count-said (countOf s) (e4 .0) in
-    let e7 = not-met (ltb (distanceOf s) (8 + 12 * countOf s)) DistanceRange 0 _ (e4 .1) in
-    let e8 = not-met (ltb (length s) (distanceOf s)) DistanceRange 0 _ (e7 .1) in
+    let e5 = both-accept (nearVerdict s) (farVerdict s) (e4 .1) in
+    let e7 = not-met (ltb (distanceOf s) (8 + 12 * countOf s)) DistanceSmall 0 _ (e5 .0) in
+    let e8 = not-met (ltb (length s) (distanceOf s)) DistanceLarge 0 _ (e5 .1) in
     record {
       long = ltb-false (length s) 8 (e1 .0);
       short = ltb-false 4096 (length s) (e2 .0);

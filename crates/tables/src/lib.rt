@@ -41,7 +41,7 @@ fn read32(bytes: &[u8], at: usize) -> u32
     (a as u32) + 65536 * (b as u32)
 }
 
-// Checks 1 to 5: the trailer.
+// Checks 1 to 5 and 15: the trailer.
 fn check_trailer(bytes: &[u8]) -> Verdict
     ensures { λ r. ⌜ r ≡ trailerVerdict (now (bytes .entry)) ⌝ }
 {
@@ -65,10 +65,10 @@ fn check_trailer(bytes: &[u8]) -> Verdict
     }
     let distance = read32(bytes, size - 8) as usize;
     if distance < 8 + 12 * count {
-        return Verdict::Refused(Refusal::DistanceRange, 0);
+        return Verdict::Refused(Refusal::DistanceSmall, 0);
     }
     if size < distance {
-        return Verdict::Refused(Refusal::DistanceRange, 0);
+        return Verdict::Refused(Refusal::DistanceLarge, 0);
     }
     Verdict::Accepted
 }

@@ -68,6 +68,11 @@ pub fn read_answer(answer: &Result<Vec<ObjectRow>, Refusal>) -> ffi::ReadAnswer 
     }
 }
 
+/// Rows that are refused have no order to show: count 0 and every field zero.
+pub fn ranked(answer: &Result<Vec<ObjectRow>, Refusal>) -> ffi::Table {
+    read_answer(answer).table
+}
+
 /// A refused plan has count 0 and every field zero.
 pub fn plan_answer(answer: &Result<Vec<PlanRow>, Refusal>) -> ffi::PlanAnswer {
     let mut plan = ffi::Plan::default();

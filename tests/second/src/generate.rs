@@ -145,6 +145,19 @@ pub fn spoil_rows(random: &mut Random, rows: &mut [ObjectRow]) {
     }
 }
 
+/// Raises the cost of one to three rows, often of the slowest, by one or by much. They stay good rows, but some may be
+/// left without a deadline.
+pub fn overload_rows(random: &mut Random, rows: &mut [ObjectRow]) {
+    for _ in 0..random.between(1, 3) {
+        let slowest = rows.iter().enumerate().max_by_key(|(_, row)| row.validity);
+        let slowest = slowest.map_or(0, |(at, _)| at);
+        let any = random.below(rows.len());
+        let row = &mut rows[random.pick(&[slowest, any])];
+        let more = random.pick(&[row.cost + 1, row.validity / 2 + 1, row.validity]);
+        row.cost = row.cost.max(more).min(MILLION as u32);
+    }
+}
+
 pub fn bad_cost(random: &mut Random) -> u32 {
     let any = random.words(1_000_001, u32::MAX);
     random.pick(&[0, 1_000_001, u32::MAX, any])

@@ -1,14 +1,14 @@
 //! The paper's own numbers, as it lists them under "Numbers to hold against it".
 
 use crate::planning::PlanRow;
-use crate::tables::ObjectRow;
+use crate::tables::{refused_at, ObjectRow, Refusal};
 
-/// Objects (id, cost, validity) in priority order with the answers (deadline, period), or none where the paper has
-/// refusal 10.
+/// Objects (id, cost, validity) in priority order with the answers (deadline, period), or, where the paper has refusal
+/// 10, the place of the first object without a deadline.
 pub struct Numbers {
     pub from: &'static str,
     pub objects: &'static [(u16, u32, u32)],
-    pub answers: Option<&'static [(u32, u32)]>,
+    pub answers: Result<&'static [(u32, u32)], usize>,
 }
 
 impl Numbers {
@@ -20,23 +20,21 @@ impl Numbers {
             .collect()
     }
 
-    /// The plan rows, or none where the paper has refusal 10.
-    pub fn plan(&self) -> Option<Vec<PlanRow>> {
-        let answers = self.answers?;
+    /// The plan rows, or refusal 10 with its place.
+    pub fn plan(&self) -> Result<Vec<PlanRow>, Refusal> {
+        let answers = self.answers.map_err(|place| refused_at(10, place))?;
         let rows = self.rows();
         assert_eq!(rows.len(), answers.len());
         let planned = rows.iter().zip(answers);
-        Some(
-            planned
-                .map(|(row, &(deadline, period))| PlanRow {
-                    id: row.id,
-                    cost: row.cost,
-                    validity: row.validity,
-                    deadline,
-                    period,
-                })
-                .collect(),
-        )
+        Ok(planned
+            .map(|(row, &(deadline, period))| PlanRow {
+                id: row.id,
+                cost: row.cost,
+                validity: row.validity,
+                deadline,
+                period,
+            })
+            .collect())
     }
 }
 
@@ -45,62 +43,62 @@ pub const PLANS: &[Numbers] = &[
     Numbers {
         from: "000, Table 3",
         objects: &[(1, 1, 3), (2, 2, 20)],
-        answers: Some(&[(1, 2), (4, 16)]),
+        answers: Ok(&[(1, 2), (4, 16)]),
     },
     Numbers {
         from: "000, Table 4",
         objects: &[(10, 1, 4), (20, 1, 5), (30, 1, 8), (40, 1, 20)],
-        answers: Some(&[(1, 3), (2, 3), (3, 5), (9, 11)]),
+        answers: Ok(&[(1, 3), (2, 3), (3, 5), (9, 11)]),
     },
     Numbers {
         from: "000, Table 5",
         objects: &[(1, 1, 8), (2, 1, 10), (3, 1, 12)],
-        answers: Some(&[(1, 7), (2, 8), (3, 9)]),
+        answers: Ok(&[(1, 7), (2, 8), (3, 9)]),
     },
     Numbers {
         from: "002, Figure 2",
         objects: FIGURE_2,
-        answers: Some(&[(2, 6), (4, 6), (6, 6)]),
+        answers: Ok(&[(2, 6), (4, 6), (6, 6)]),
     },
     Numbers {
         from: "002, Figure 2, with 12 made 11",
         objects: &[(1, 2, 8), (2, 2, 10), (3, 2, 11)],
-        answers: None,
+        answers: Err(2),
     },
     Numbers {
         from: "(1,2)",
         objects: &[(1, 1, 2)],
-        answers: Some(&[(1, 1)]),
+        answers: Ok(&[(1, 1)]),
     },
     Numbers {
         from: "(1,2), (1,1000000)",
         objects: &[(1, 1, 2), (2, 1, 1_000_000)],
-        answers: None,
+        answers: Err(1),
     },
     Numbers {
         from: "(500000,1000000)",
         objects: &[(1, 500_000, 1_000_000)],
-        answers: Some(&[(500_000, 500_000)]),
+        answers: Ok(&[(500_000, 500_000)]),
     },
     Numbers {
         from: "(500001,1000000)",
         objects: &[(1, 500_001, 1_000_000)],
-        answers: None,
+        answers: Err(0),
     },
     Numbers {
         from: "(1,3), (1,4)",
         objects: &[(1, 1, 3), (2, 1, 4)],
-        answers: Some(&[(1, 2), (2, 2)]),
+        answers: Ok(&[(1, 2), (2, 2)]),
     },
     Numbers {
         from: "(1,3), (1,3)",
         objects: &[(1, 1, 3), (2, 1, 3)],
-        answers: None,
+        answers: Err(1),
     },
     Numbers {
         from: "id 1 (1,10), id 2 (3,10)",
         objects: &[(2, 3, 10), (1, 1, 10)],
-        answers: Some(&[(3, 7), (4, 6)]),
+        answers: Ok(&[(3, 7), (4, 6)]),
     },
 ];
 

@@ -19,12 +19,13 @@ pub fn numbers(_seed: u64) -> Result<(), String> {
 fn plans(tally: &mut Tally) -> Result<(), String> {
     for numbers in PLANS {
         let rows = numbers.rows();
-        let expected = cform::plan_answer(&numbers.plan().ok_or(refused(10)));
+        let expected = cform::plan_answer(&numbers.plan());
+        let ranked = cform::table(&rows);
         for rows in [rows.clone(), rows.into_iter().rev().collect()] {
-            let library = ffi::plan_table(&cform::table(&rows));
-            agree("channelfox_plan_table", &expected, &library, || {
-                numbers.from.to_string()
-            })?;
+            let table = cform::table(&rows);
+            let told = || numbers.from.to_string();
+            agree("channelfox_plan_table", &expected, &ffi::plan_table(&table), told)?;
+            agree("channelfox_ranked", &ranked, &ffi::ranked(&table), told)?;
         }
         tally.add("plans of the paper", 1);
     }
@@ -49,6 +50,9 @@ fn stored_bytes(tally: &mut Tally) -> Result<(), String> {
         (vec![8, 0, 0, 0, 65, 0, 0x4D, 0x4C], Err(refused(4))),
         (with_distance(19), Err(refused(5))),
         (with_distance(20), Ok(vec![read_row])),
+        (with_distance(21), Err(refused(15))),
+        (vec![9, 0, 0, 0, 1, 0, 0x4D, 0x4C], Err(refused(5))),
+        (vec![20, 0, 0, 0, 1, 0, 0x4D, 0x4C], Err(refused(15))),
     ];
     for (bytes, answer) in answers {
         let expected = Ok(cform::read_answer(&answer));

@@ -1,11 +1,11 @@
-//! Part 3: row tables through the planner.
+//! Part 3: row tables through the planner, and their rows in priority order.
 
-use paper::planning::plan;
-use paper::tables::{ObjectRow, MOST_OBJECTS};
+use paper::planning::{plan, ranked};
+use paper::tables::{ObjectRow, Refusal, MOST_OBJECTS};
 
-use crate::generate::{bad_count, garbage_row, object_count, object_rows, spoil_rows, Times};
+use crate::generate::{bad_count, garbage_row, object_count, object_rows, overload_rows, spoil_rows, Times};
 use crate::random::Random;
-use crate::tally::{agree, for_cases, Tally};
+use crate::tally::{agree, class, for_cases, Tally, PLACES};
 use crate::{cform, ffi};
 
 const TABLES: u64 = 120_000;
@@ -17,10 +17,16 @@ pub fn row_tables(seed: u64) -> Result<(), String> {
     let mut tally = Tally::new();
     tally.expect("row tables", 100_000);
     tally.expect("planned", TABLES / 20);
-    tally.expect("refusal 10", TABLES / 20);
+    for class in PLACES {
+        tally.expect(format!("refusal 10 at {class}"), 50);
+    }
     for number in [4, 7, 8, 9] {
         tally.expect(format!("refusal {number}"), 1000);
     }
+    tally.expect("ranked", 50_000);
+    tally.expect("ranked, not in the order of the rows", 10_000);
+    tally.expect("ranked, though refused with 10", 10_000);
+    tally.expect("not ranked", 1000);
     tally.expect("with long validities", 1000);
     tally.expect("with ties in validity and cost", 10_000);
     tally.expect("planned with 64 objects", 1000);
@@ -48,6 +54,7 @@ fn row_table(random: &mut Random, tally: &mut Tally) -> Result<(), String> {
             told_count = bad_count(random, count);
             spoil_rows(random, &mut rows);
         }
+        4..=6 => overload_rows(random, &mut rows),
         _ => {}
     }
     let garbage = random.one_in(2);
@@ -63,10 +70,15 @@ fn row_table(random: &mut Random, tally: &mut Tally) -> Result<(), String> {
     agree("channelfox_plan_table", &cform::plan_answer(&answer), &library, || {
         format!("{table:?}")
     })?;
+    in_order(told_count, &rows, &table, tally)?;
 
     tally.add("row tables", 1);
     match &answer {
         Ok(_) => tally.add("planned", 1),
+        Err(Refusal { number: 10, place }) => {
+            tally.add(&format!("refusal 10 at {}", class(*place, count)), 1);
+            tally.add("ranked, though refused with 10", 1);
+        }
         Err(refusal) => tally.add(&format!("refusal {}", refusal.number), 1),
     }
     if times == Times::Long {
@@ -80,6 +92,26 @@ fn row_table(random: &mut Random, tally: &mut Tally) -> Result<(), String> {
     }
     if answer.is_ok() && garbage && count < MOST_OBJECTS {
         tally.add("planned with rows beyond the count that are not zero", 1);
+    }
+    Ok(())
+}
+
+/// The rows in priority order, by which a reader of a refusal finds the object that its place tells.
+fn in_order(count: usize, rows: &[ObjectRow], table: &ffi::Table, tally: &mut Tally) -> Result<(), String> {
+    let answer = ranked(count, rows);
+    agree(
+        "channelfox_ranked",
+        &cform::ranked(&answer),
+        &ffi::ranked(table),
+        || format!("{table:?}"),
+    )?;
+    match answer {
+        Ok(ordered) => {
+            tally.add("ranked", 1);
+            let moved = ordered != rows[..count];
+            tally.add("ranked, not in the order of the rows", u64::from(moved));
+        }
+        Err(_) => tally.add("not ranked", 1),
     }
     Ok(())
 }

@@ -5,11 +5,11 @@ use paper::states::{shown, taken_up};
 use paper::tables::{ObjectRow, Refusal, MOST_OBJECTS};
 
 use crate::generate::{
-    bad_count, clock, first_releases, garbage_row, object_count, object_rows, planned_rows, run_state, spoil_rows,
-    stolen_slots, Times,
+    bad_count, clock, first_releases, garbage_row, object_count, object_rows, overload_rows, planned_rows, run_state,
+    spoil_rows, stolen_slots, Times,
 };
 use crate::random::Random;
-use crate::tally::{agree, for_cases, hex, Tally};
+use crate::tally::{agree, class, for_cases, hex, Tally, PLACES};
 use crate::{cform, ffi};
 
 const STARTS: u64 = 30_000;
@@ -31,9 +31,13 @@ pub fn starts_and_runs(seed: u64) -> Result<(), String> {
     let mut tally = Tally::new();
     tally.expect("starts", 10_000);
     tally.expect("starts accepted", 1000);
-    for number in [4, 7, 8, 9, 10, 11] {
+    for number in [4, 7, 8, 9] {
         tally.expect(format!("starts with refusal {number}"), 100);
     }
+    for class in PLACES {
+        tally.expect(format!("starts with refusal 10 at {class}"), 5);
+    }
+    tally.expect("starts with refusal 11", 100);
     for class in ["place 0", "a later place"] {
         tally.expect(format!("starts with refusal 12 at {class}"), 200);
     }
@@ -59,8 +63,10 @@ fn start(random: &mut Random, tally: &mut Tally) -> Result<(), String> {
     let (mut rows, planned) = planned_rows(random, count);
     let mut firsts = first_releases(random, &planned);
     let mut told_count = count;
-    if random.one_in(8) {
-        rows = object_rows(random, count, Times::Short);
+    match random.below(16) {
+        0 => rows = object_rows(random, count, Times::Short),
+        1 => overload_rows(random, &mut rows),
+        _ => {}
     }
     if random.one_in(8) {
         spoil_rows(random, &mut rows);
@@ -93,6 +99,9 @@ fn start(random: &mut Random, tally: &mut Tally) -> Result<(), String> {
     tally.add("starts", 1);
     match answer {
         Ok(_) => tally.add("starts accepted", 1),
+        Err(Refusal { number: 10, place }) => {
+            tally.add(&format!("starts with refusal 10 at {}", class(place, count)), 1);
+        }
         Err(Refusal { number: 12, place: 0 }) => tally.add("starts with refusal 12 at place 0", 1),
         Err(Refusal { number: 12, .. }) => tally.add("starts with refusal 12 at a later place", 1),
         Err(refusal) => tally.add(&format!("starts with refusal {}", refusal.number), 1),

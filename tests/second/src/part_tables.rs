@@ -5,7 +5,7 @@ use paper::tables::{check_table, choose, read, ObjectRow, Refusal, MOST_OBJECTS}
 
 use crate::generate::{garbage_row, object_rows, spoil_rows, Times};
 use crate::random::Random;
-use crate::tally::{agree, for_cases, hex, Tally};
+use crate::tally::{agree, class, for_cases, hex, Tally, FIRST, PLACES};
 use crate::{cform, ffi, stored};
 
 const STORED_TABLES: u64 = 130_000;
@@ -21,7 +21,7 @@ pub fn stored_tables(seed: u64) -> Result<(), String> {
     for length in LENGTHS {
         tally.expect(format!("of {length} bytes"), 50);
     }
-    for number in 1..=5 {
+    for number in [1, 2, 3, 4, 5, 15] {
         tally.expect(format!("refusal {number}"), 100);
     }
     for distance in DISTANCES {
@@ -36,23 +36,24 @@ pub fn stored_tables(seed: u64) -> Result<(), String> {
         }
     }
     tally.expect("planned from the bytes: planned", 1000);
-    tally.expect("planned from the bytes: refusal 10", 1000);
+    for class in PLACES {
+        tally.expect(format!("planned from the bytes: refusal 10 at {class}"), 5);
+    }
     for_cases(seed, 1, STORED_TABLES, |random| stored_table(random, &mut tally))?;
     tally.close()
 }
 
-const FIRST: &str = "place 0";
-const PLACES: [&str; 4] = [FIRST, "a middle place", "the last place", "place 63"];
-
 /// Lengths that must have been seen.
 const LENGTHS: [usize; 12] = [0, 1, 2, 3, 4, 5, 6, 7, 8, 9, 4096, 4097];
 
-/// Distances that must have been seen where nothing but check 5 and the records can refuse.
-const DISTANCES: [&str; 4] = [
+/// Distances that must have been seen where nothing but checks 5 and 15 and the records can refuse.
+const DISTANCES: [&str; 6] = [
     "distance one below 8 + 12 n",
     "distance 8 + 12 n",
     "distance the number of bytes",
     "distance one above the number of bytes",
+    "distance 8 + 12 n, which is above the number of bytes: 15",
+    "distance below 8 + 12 n and above the number of bytes: 5",
 ];
 
 fn stored_table(random: &mut Random, tally: &mut Tally) -> Result<(), String> {
@@ -81,7 +82,10 @@ fn stored_table(random: &mut Random, tally: &mut Tally) -> Result<(), String> {
         tally.add("of them also planned from the bytes", 1);
         match planned {
             Ok(_) => tally.add("planned from the bytes: planned", 1),
-            Err(Refusal { number: 10, .. }) => tally.add("planned from the bytes: refusal 10", 1),
+            Err(Refusal { number: 10, place }) => {
+                let class = class(place, told_count(&bytes));
+                tally.add(&format!("planned from the bytes: refusal 10 at {class}"), 1);
+            }
             Err(_) => {}
         }
     }
@@ -103,13 +107,24 @@ fn tell_length_and_distance(bytes: &[u8], answer: &Result<Vec<ObjectRow>, Refusa
     }
     let trailer: [u8; 4] = bytes[length - 8..length - 4].try_into().expect("four bytes");
     let distance = u32::from_le_bytes(trailer) as usize;
-    let needed = 8 + 12 * usize::from(bytes[length - 4]);
-    let limits = [needed - 1, needed, length, length + 1];
-    for (limit, told) in limits.into_iter().zip(DISTANCES) {
-        if distance == limit {
-            tally.add(told, 1);
-        }
+    let needed = 8 + 12 * told_count(bytes);
+    let number = answer.as_ref().map_or_else(|refusal| refusal.number, |_| 0);
+    let seen = [
+        distance == needed - 1,
+        distance == needed,
+        distance == length,
+        distance == length + 1,
+        distance == needed && distance > length && number == 15,
+        distance < needed && distance > length && number == 5,
+    ];
+    for (seen, told) in seen.into_iter().zip(DISTANCES) {
+        tally.add(told, u64::from(seen));
     }
+}
+
+/// The count that a stored table tells, where checks 1 to 4 have found nothing, so that its lower byte is all of it.
+fn told_count(bytes: &[u8]) -> usize {
+    usize::from(bytes[bytes.len() - 4])
 }
 
 /// The line of the tally for an answer of the reader.
@@ -117,18 +132,11 @@ fn told(bytes: &[u8], answer: &Result<Vec<ObjectRow>, Refusal>) -> String {
     match answer {
         Ok(_) => "read".to_string(),
         Err(Refusal {
-            number: number @ 1..=5, ..
+            number: number @ (1..=5 | 15),
+            ..
         }) => format!("refusal {number}"),
         Err(Refusal { number, place }) => {
-            // A refusal of a record has come past checks 1 to 5, so the count is one to rely on.
-            let count = u32::from(bytes[bytes.len() - 4]);
-            let class = match *place {
-                0 => FIRST,
-                63 => PLACES[3],
-                place if place + 1 == count => PLACES[2],
-                _ => PLACES[1],
-            };
-            format!("refusal {number} at {class}")
+            format!("refusal {number} at {}", class(*place, told_count(bytes)))
         }
     }
 }

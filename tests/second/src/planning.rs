@@ -2,7 +2,7 @@
 
 use std::cmp::Reverse;
 
-use crate::tables::{check_table, refused, ObjectRow, Refusal};
+use crate::tables::{check_table, refused_at, ObjectRow, Refusal};
 
 /// A row of a plan: an object row with its deadline and period.
 #[derive(Clone, Copy, PartialEq, Eq, Debug, Default)]
@@ -14,12 +14,12 @@ pub struct PlanRow {
     pub period: u32,
 }
 
-/// Plans a table: checks 4, 7, 8 and 9 again, then a deadline and period for each object in priority order.
+/// Plans a table: checks 4, 7, 8 and 9 again, then a deadline and period for each object in priority order. The first
+/// object without a deadline has its place told.
 pub fn plan(count: usize, rows: &[ObjectRow]) -> Result<Vec<PlanRow>, Refusal> {
-    let used = check_table(count, rows)?;
     let mut planned = Vec::new();
-    for row in in_priority_order(used) {
-        let deadline = deadline(row, &planned).ok_or(refused(10))?;
+    for (place, row) in ranked(count, rows)?.into_iter().enumerate() {
+        let deadline = deadline(row, &planned).ok_or(refused_at(10, place))?;
         planned.push(PlanRow {
             id: row.id,
             cost: row.cost,
@@ -29,6 +29,11 @@ pub fn plan(count: usize, rows: &[ObjectRow]) -> Result<Vec<PlanRow>, Refusal> {
         });
     }
     Ok(planned)
+}
+
+/// The rows in priority order, in which the places of 10 and 12 are told: checks 4, 7, 8 and 9 alone.
+pub fn ranked(count: usize, rows: &[ObjectRow]) -> Result<Vec<ObjectRow>, Refusal> {
+    check_table(count, rows).map(in_priority_order)
 }
 
 /// Shortest validity first; of equal validities the larger cost, which has less slack; then the smaller id.
@@ -82,8 +87,7 @@ mod tests {
     fn the_papers_numbers() {
         for numbers in PLANS {
             let rows = numbers.rows();
-            let expected = numbers.plan().ok_or(refused(10));
-            assert_eq!(plan(rows.len(), &rows), expected, "{}", numbers.from);
+            assert_eq!(plan(rows.len(), &rows), numbers.plan(), "{}", numbers.from);
         }
     }
 
@@ -92,9 +96,20 @@ mod tests {
         for numbers in PLANS {
             let mut rows = numbers.rows();
             rows.reverse();
-            let expected = numbers.plan().ok_or(refused(10));
-            assert_eq!(plan(rows.len(), &rows), expected, "{}", numbers.from);
+            assert_eq!(plan(rows.len(), &rows), numbers.plan(), "{}", numbers.from);
+            assert_eq!(ranked(rows.len(), &rows), Ok(numbers.rows()), "{}", numbers.from);
         }
+    }
+
+    #[test]
+    fn the_first_object_without_a_deadline_is_told_by_its_place_in_priority_order() {
+        let row = |id, cost, validity| ObjectRow { id, cost, validity };
+        // By rows the last is without a deadline and by priority the middle one; the slowest is without one too.
+        let rows = [row(1, 90, 100), row(2, 1, 10), row(3, 21, 40)];
+        assert_eq!(plan(3, &rows), Err(refused_at(10, 1)));
+        let order: Vec<u16> = ranked(3, &rows).unwrap().iter().map(|row| row.id).collect();
+        assert_eq!(order, [2, 3, 1]);
+        assert_eq!(ranked(2, &[row(1, 1, 9), row(1, 1, 8)]), Err(refused_at(9, 1)));
     }
 
     #[test]

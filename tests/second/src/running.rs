@@ -202,7 +202,7 @@ mod tests {
         assert_eq!(start(&[5, 6, 6]), Err(refused_at(12, 1)));
         assert_eq!(start(&[u32::MAX, 0, 6]), Err(refused_at(12, 0)));
         let without_deadline = started(&[(1, 1, 3), (2, 1, 3)], 0, &[9]);
-        assert_eq!(without_deadline, Err(refused(10)));
+        assert_eq!(without_deadline, Err(refused_at(10, 1)), "before 11");
     }
 
     #[test]

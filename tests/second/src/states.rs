@@ -297,7 +297,7 @@ mod tests {
     #[test]
     fn every_state_of_a_run_is_acceptable_and_taken_up_it_goes_on_the_same() {
         for clock in [0, u32::MAX, u32::MAX - 20] {
-            for numbers in PLANS.iter().filter(|numbers| numbers.answers.is_some()) {
+            for numbers in PLANS.iter().filter(|numbers| numbers.answers.is_ok()) {
                 let firsts = vec![0; numbers.objects.len()];
                 let mut run = started(numbers.objects, clock, &firsts);
                 for instant in 0..60 {

@@ -2,7 +2,7 @@
 
 use paper::tables::{ObjectRow, MARK, MOST_BYTES, MOST_OBJECTS, RECORD, TRAILER};
 
-use crate::generate::{bad_cost, bad_validity, object_count, object_rows, place, Times};
+use crate::generate::{bad_cost, bad_validity, object_count, object_rows, overload_rows, place, Times};
 use crate::random::Random;
 
 /// A stored table in its parts, which need not fit together.
@@ -22,7 +22,7 @@ struct Record {
 
 /// A stored table of any kind.
 pub fn any(random: &mut Random) -> Vec<u8> {
-    match random.below(20) {
+    match random.below(21) {
         0 => tiny(random),
         1 => noise(random),
         2..=6 => good(random),
@@ -49,6 +49,7 @@ pub fn any(random: &mut Random) -> Vec<u8> {
             let bytes = good(random);
             flip_bits(random, bytes)
         }
+        19 => told_of_too_many(random),
         _ => spoiled_in_many_ways(random),
     }
 }
@@ -80,7 +81,10 @@ fn good_draft(random: &mut Random) -> Draft {
         7..=9 => Times::Tied,
         _ => Times::Short,
     };
-    let rows = object_rows(random, count, times);
+    let mut rows = object_rows(random, count, times);
+    if random.one_in(6) {
+        overload_rows(random, &mut rows);
+    }
     let room = MOST_BYTES - TRAILER - RECORD * count;
     let before = gap(random, room);
     let between = gap(random, room - before.len());
@@ -187,6 +191,21 @@ fn odd_distance(random: &mut Random, draft: &Draft) -> u32 {
         u32::MAX,
         around,
     ])
+}
+
+/// A trailer that tells of more records than the bytes can hold, with a distance around the number of bytes and 8 + 12
+/// times n: so checks 5 and 15 both apply, or one of them.
+fn told_of_too_many(random: &mut Random) -> Vec<u8> {
+    let mut draft = good_draft(random);
+    let fit = (draft.length() - TRAILER) / RECORD;
+    if fit < MOST_OBJECTS {
+        draft.count = random.between(fit + 1, MOST_OBJECTS) as u16;
+    }
+    let needed = TRAILER as u32 + RECORD as u32 * u32::from(draft.count);
+    let length = draft.length() as u32;
+    let any = random.words(length.min(needed), length.max(needed));
+    draft.distance = random.pick(&[length, length + 1, needed - 1, needed, needed + 1, any]);
+    draft.bytes()
 }
 
 fn odd_count(random: &mut Random, good: u16) -> u16 {

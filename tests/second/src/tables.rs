@@ -1,4 +1,4 @@
-//! The stored table, the second door and the choice: refusals 1 to 9.
+//! The stored table, the second door and the choice: refusals 1 to 9, and 15.
 
 use std::ops::{Range, RangeInclusive};
 
@@ -60,7 +60,7 @@ pub struct Part<'a> {
     pub bytes: &'a [u8],
 }
 
-/// Reads a stored table: checks 1 to 5 on the whole, then the records one after the other.
+/// Reads a stored table: checks 1 to 5 and 15 on the whole, then the records one after the other.
 pub fn read(bytes: &[u8]) -> Result<Vec<ObjectRow>, Refusal> {
     let part = records_part(bytes)?;
     let mut rows = Vec::new();
@@ -80,7 +80,7 @@ pub fn read(bytes: &[u8]) -> Result<Vec<ObjectRow>, Refusal> {
     Ok(rows)
 }
 
-/// Checks 1 to 5, and the part of the bytes where the records are.
+/// Checks 1 to 5 and then 15, and the part of the bytes where the records are.
 pub fn records_part(bytes: &[u8]) -> Result<Range<usize>, Refusal> {
     let length = bytes.len();
     if length < TRAILER {
@@ -99,8 +99,11 @@ pub fn records_part(bytes: &[u8]) -> Result<Range<usize>, Refusal> {
         return Err(refused(4));
     }
     let needed = TRAILER as u64 + RECORD as u64 * count;
-    if distance < needed || distance > length as u64 {
+    if distance < needed {
         return Err(refused(5));
+    }
+    if distance > length as u64 {
+        return Err(refused(15));
     }
     let start = length - distance as usize;
     Ok(start..start + RECORD * count as usize)
@@ -204,7 +207,17 @@ mod tests {
         one[12] = 19;
         assert_eq!(read(&one), Err(refused(5)), "distance 19");
         one[12] = 21;
-        assert_eq!(read(&one), Err(refused(5)), "distance above the number of bytes");
+        assert_eq!(read(&one), Err(refused(15)), "distance above the number of bytes");
+    }
+
+    #[test]
+    fn too_small_a_distance_is_told_before_one_too_large() {
+        // One record told of, in bytes that cannot hold it.
+        let trailer = |distance: u8| [distance, 0, 0, 0, 1, 0, 0x4D, 0x4C];
+        assert_eq!(read(&trailer(8)), Err(refused(5)), "too small alone");
+        assert_eq!(read(&trailer(9)), Err(refused(5)), "too small and too large");
+        assert_eq!(read(&trailer(19)), Err(refused(5)), "too small and too large");
+        assert_eq!(read(&trailer(20)), Err(refused(15)), "too large alone");
     }
 
     #[test]

@@ -59,6 +59,20 @@ impl Tally {
     }
 }
 
+/// The classes of places that are counted apart.
+pub const FIRST: &str = "place 0";
+pub const PLACES: [&str; 4] = [FIRST, "a middle place", "the last place", "place 63"];
+
+/// The class of a place among so many. 0 and 63 are classes of their own, though they may be the last place too.
+pub fn class(place: u32, count: usize) -> &'static str {
+    match place as usize {
+        0 => FIRST,
+        63 => PLACES[3],
+        place if place + 1 == count => PLACES[2],
+        _ => PLACES[1],
+    }
+}
+
 /// Holds the answers of the paper and of the library together. The input is only told where they differ.
 pub fn agree<T: PartialEq + Debug>(
     what: &str,

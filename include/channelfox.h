@@ -20,6 +20,7 @@
  *   13 not a run state                                      0
  *   14 no object with that id                               0
  *   15 distance above the number of bytes                   0
+ *   16 the buffer is smaller than what is to be written     0
  * The stored table is checked for 1 to 5, then 15, then 6 to 9 record by record.
  */
 #ifndef CHANNELFOX_H
@@ -109,6 +110,11 @@ typedef struct {
     uint32_t age;   /* of a fresh value, in slots; otherwise 0 */
 } channelfox_reading;
 
+typedef struct {
+    channelfox_verdict verdict;
+    size_t length; /* bytes written; 0 where refused */
+} channelfox_written;
+
 /* The part chosen: of the site bytes (1), of the factory bytes (2), `length` bytes from `start` on. */
 typedef struct {
     uint32_t source;
@@ -121,6 +127,11 @@ channelfox_read_answer channelfox_read(const uint8_t *bytes, size_t length);
 
 /* The second door: a list of rows in memory becomes a table. Refusals 4, 7, 8, 9, with count 0 and every field zero. */
 channelfox_read_answer channelfox_rows(const channelfox_object_row *rows, size_t length);
+
+/* Writes a table as stored bytes: n records and the trailer, 8 + 12 n bytes without gap at the start of the buffer, and nothing
+ * beyond them is touched. Refusals 4, 7, 8, 9, then 16 where the buffer has fewer bytes, leave the buffer as it is. Rows of the
+ * table beyond its count are not read. What is written reads back as the same rows in the same order. */
+channelfox_written channelfox_write(channelfox_table table, uint8_t *buffer, size_t length);
 
 /* The records part of the site table if that reads without refusal, otherwise of the factory table if that one does,
  * otherwise the empty part at the start of the factory bytes (source 2, start 0, length 0). */

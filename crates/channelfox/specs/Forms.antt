@@ -19,6 +19,7 @@ use Rattle.rules.specs.declared.Stored.{Stored}
 use Rattle.rules.specs.declared.Stored.the-variants.{Empty, Held, Lapsed}
 use Rattle.rules.specs.declared.Verdict.{Verdict}
 use Rattle.rules.specs.declared.Verdict.the-variants.{Accepted, Refused}
+use Rattle.rules.specs.declared.Written.{Written}
 use Rattle.rules.specs.Refusals.{numberOf}
 use Rattle.rules.specs.Deadlines.{noPlan, onAccepted, planOf}
 use Rattle.rules.specs.Run.{steppedOf, advancedOf, readingOf}
@@ -30,6 +31,7 @@ use Rattle.channelfox.specs.declared.CRun.{CRun}
 use Rattle.channelfox.specs.declared.CRunAnswer.{CRunAnswer}
 use Rattle.channelfox.specs.declared.CRunRow.{CRunRow}
 use Rattle.channelfox.specs.declared.CVerdict.{CVerdict}
+use Rattle.channelfox.specs.declared.CWritten.{CWritten}
 
 -- ── Verdicts, tables, plans ──
 
@@ -39,6 +41,9 @@ verdictForm (Refused r k) = record { number = numberOf r; place = k }
 
 abbrev pub readForm : ReadTable → CReadAnswer
 readForm a = record { verdict = verdictForm (a .verdict); table = a .table }
+
+abbrev pub writtenForm : Written → CWritten
+writtenForm w = record { verdict = verdictForm (w .verdict); length = w .length }
 
 abbrev pub planForm : Planned → CPlanAnswer
 planForm p = record { verdict = verdictForm (p .verdict); plan = p .plan }

@@ -3,11 +3,13 @@
 mod forms;
 
 ghost use mathlib.Core.Path.{_≡_};
+ghost use lib.ListN.{length};
 ghost use Rattle.rules.specs.StoredTable.{readOf, doorOf, chosenPart};
+ghost use Rattle.rules.specs.Writing.{writtenOf, bufferAfter};
 ghost use Rattle.rules.specs.Order.{rankedOf};
 ghost use Rattle.rules.specs.Deadlines.{planOf};
 ghost use Rattle.rules.specs.Run.{startOf};
-ghost use Rattle.channelfox.specs.Forms.{readForm, planForm, startedForm, steppedForm, plannedStored, noForm, slotForm, advanceForm, readingForm, readValueForm, partForm};
+ghost use Rattle.channelfox.specs.Forms.{readForm, writtenForm, planForm, startedForm, steppedForm, plannedStored, noForm, slotForm, advanceForm, readingForm, readValueForm, partForm};
 use forms::all_forms;
 use forms::run_form;
 use forms::run_of;
@@ -24,6 +26,7 @@ use rules::Started;
 use rules::Stepped;
 use rules::Table;
 use rules::Verdict;
+use rules::Written;
 
 // A verdict: number 0 and place 0, or the refusal.
 #[repr(C)]
@@ -56,6 +59,13 @@ pub struct CRun {
 pub struct CReadAnswer {
     pub verdict: CVerdict,
     pub table: Table,
+}
+
+// How many bytes were written; 0 where refused.
+#[repr(C)]
+pub struct CWritten {
+    pub verdict: CVerdict,
+    pub length: usize,
 }
 
 #[repr(C)]
@@ -96,6 +106,16 @@ fn read_form(answer: ReadTable) -> CReadAnswer
     CReadAnswer {
         verdict: verdict_form(verdict),
         table,
+    }
+}
+
+fn written_form(written: Written) -> CWritten
+    ensures { λ r. ⌜ r ≡ writtenForm written ⌝ }
+{
+    let verdict = written.verdict;
+    CWritten {
+        verdict: verdict_form(verdict),
+        length: written.length,
     }
 }
 
@@ -172,6 +192,13 @@ pub extern "C" fn channelfox_choose(site: &[u8], factory: &[u8]) -> CPart
         start: part.start,
         length: part.length,
     }
+}
+
+#[no_mangle]
+pub extern "C" fn channelfox_write(table: Table, buffer: &mut [u8]) -> CWritten
+    ensures { λ r. ⌜ (now (buffer .exit) ≡ bufferAfter table (now (buffer .entry))) × (r ≡ writtenForm (writtenOf table (length (now (buffer .entry))))) ⌝ }
+{
+    written_form(tables::write(table, buffer))
 }
 
 #[no_mangle]

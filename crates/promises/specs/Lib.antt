@@ -1,6 +1,7 @@
 pub mod Exactly
 pub mod OnlyOrder
 pub mod AnyRecordOrder
+pub mod RoundTrip
 pub mod SamePlan
 pub mod Tests
 pub mod History

@@ -5,7 +5,7 @@ use mathlib.Core.Bool.{Bool, true, false, cond, _&&_, true≢false}
 use mathlib.Core.List.{List, [], _∷_, _++_}
 use native.Mathlib.Omega.{arith}
 use native.Mathlib.Numerals.{add-one}
-use borrow.Author.Tests.{eq-eqb, ne-eqb, le-ltb, lt-ltb, ltb-false, leb-true}
+use borrow.Author.Tests.{eq-eqb, ne-eqb, eqb-true, le-ltb, lt-ltb, ltb-false, leb-true}
 use lib.Dec.{eqb, leb, ltb}
 use lib.ListN.{length, take, drop, getD, replicate, length-take, drop-of-length-le}
 use lib.Seq.{drop-cons, getD-take, take-suc}
@@ -157,6 +157,7 @@ pub record Ranged (r : ObjectRow) : Type 0 where
 
 -- what an accepted list says of its first row
 pub record FirstPassed (spares : List ℕ) (at : ℕ) (seen : List ObjectRow) (r : ObjectRow) (rs : List ObjectRow) : Type 0 where
+  pub spare : getD spares at 0 ≡ 0
   pub ranged : Ranged r
   pub new-id : hasId (r .id) seen ≡ false
   pub others : checksFrom spares (at + 1) (seen ++ r ∷ []) rs ≡ Accepted
@@ -170,6 +171,7 @@ first-passed spares at seen r rs e =
     let c = both-true (leb 1 (r .cost)) (leb (r .cost) 1000000) (cost .0) in
     let v = both-true (leb 2 (r .validity)) (leb (r .validity) 1000000) (validity .0) in
     record {
+      spare = eqb-true (getD spares at 0) 0 (spare .0);
       ranged = record { cost-from = leb-true 1 (r .cost) (c .0); cost-to = leb-true (r .cost) 1000000 (c .1); validity-from = leb-true 2 (r .validity) (v .0); validity-to = leb-true (r .validity) 1000000 (v .1) };
       new-id = id .0;
       others = id .1;

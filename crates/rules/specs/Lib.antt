@@ -1,5 +1,6 @@
 pub mod Refusals
 pub mod StoredTable
+pub mod Writing
 pub mod Order
 pub mod Deadlines
 pub mod RunState

@@ -12,6 +12,7 @@ use Rattle.rules.specs.declared.Verdict.{Verdict}
 use Rattle.rules.specs.declared.Verdict.the-variants.{Accepted, Refused}
 use Rattle.rules.specs.Refusals.{numberOf}
 use Rattle.rules.specs.StoredTable.{tableOf, readVerdict}
+use Rattle.rules.specs.Writing.{tableBytes, bufferAfter}
 use Rattle.rules.specs.Deadlines.{planOf}
 
 -- an object row: id, cost, validity
@@ -98,6 +99,21 @@ storedTable =
     ∷ record { bytes = stored 1 0 1 4 ++ stored 2 1 0 4 ++ trailer 32 2; refusal = (6, 1) }
     ∷ record { bytes = stored 1 0 0 4 ++ stored 2 1 1 4 ++ trailer 32 2; refusal = (7, 0) }
     ∷ []
+
+-- what is written: n records in the given order, not in priority order, and the trailer, without gap, the numbers with the low byte first
+pub written-right : tableBytes (row 2 3 5 ∷ row 1 1 4 ∷ []) ≡ stored 2 0 3 5 ++ stored 1 0 1 4 ++ trailer 32 2
+written-right = refl
+
+pub written-low-first : tableBytes (row 258 66051 1000000 ∷ []) ≡ 2 ∷ 1 ∷ 0 ∷ 0 ∷ 3 ∷ 2 ∷ 1 ∷ 0 ∷ 64 ∷ 66 ∷ 15 ∷ 0 ∷ trailer 20 1
+written-low-first = refl
+
+-- a buffer of nines after writing: one byte more than needed, one byte less (16), and rows that are refused (7)
+abbrev pub nines : ℕ → List ℕ
+nines n = replicate n 9
+
+pub buffers-right : map (λ (c : List ObjectRow × ℕ). bufferAfter (tableOf (c .0)) (nines (c .1))) ((row 1 1 4 ∷ [], 21) ∷ (row 1 1 4 ∷ [], 19) ∷ (row 1 0 4 ∷ [], 21) ∷ [])
+    ≡ (stored 1 0 1 4 ++ trailer 20 1 ++ nines 1) ∷ nines 19 ∷ nines 21 ∷ []
+buffers-right = refl
 
 pub stored-right : map (λ (c : StoredCase). refusalOf (readVerdict (c .bytes))) storedTable ≡ map (λ (c : StoredCase). c .refusal) storedTable
 stored-right = refl

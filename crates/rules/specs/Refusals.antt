@@ -2,7 +2,7 @@
 -- Assumes nothing.
 use Prim.Native.Nat.{ℕ}
 use Rattle.rules.specs.declared.Refusal.{Refusal}
-use Rattle.rules.specs.declared.Refusal.the-variants.{TooShort, TooLong, WrongMark, CountRange, DistanceSmall, SpareUsed, CostRange, ValidityRange, IdRepeated, NoDeadline, FirstsCount, FirstRange, NotRunState, NoSuchId, DistanceLarge}
+use Rattle.rules.specs.declared.Refusal.the-variants.{TooShort, TooLong, WrongMark, CountRange, DistanceSmall, SpareUsed, CostRange, ValidityRange, IdRepeated, NoDeadline, FirstsCount, FirstRange, NotRunState, NoSuchId, DistanceLarge, BufferSmall}
 use Rattle.rules.specs.declared.Verdict.{Verdict}
 use Rattle.rules.specs.declared.Verdict.the-variants.{Accepted, Refused}
 
@@ -23,6 +23,7 @@ numberOf FirstRange = 12
 numberOf NotRunState = 13
 numberOf NoSuchId = 14
 numberOf DistanceLarge = 15
+numberOf BufferSmall = 16
 
 -- "Order: 1 to 5 as numbered. Then the records": what is checked later counts only where nothing was refused before
 abbrev pub firstRefusal : Verdict → Verdict → Verdict

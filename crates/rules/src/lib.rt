@@ -83,6 +83,7 @@ pub enum Refusal {
     NotRunState,
     NoSuchId,
     DistanceLarge,
+    BufferSmall,
 }
 
 // Accepted, or the refusal with its place.
@@ -95,6 +96,12 @@ pub enum Verdict {
 pub struct ReadTable {
     pub verdict: Verdict,
     pub table: Table,
+}
+
+// What writing into a lent buffer answers: how many bytes were written, or the refusal and 0.
+pub struct Written {
+    pub verdict: Verdict,
+    pub length: usize,
 }
 
 // What planning answers: the plan, or the refusal with an empty plan.
@@ -150,6 +157,7 @@ pub fn refusal_number(refusal: Refusal) -> u8
         Refusal::NotRunState => 13,
         Refusal::NoSuchId => 14,
         Refusal::DistanceLarge => 15,
+        Refusal::BufferSmall => 16,
     }
 }
 

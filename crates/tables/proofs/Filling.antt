@@ -12,12 +12,9 @@ use Rattle.rules.specs.declared.Verdict.{Verdict}
 use Rattle.rules.specs.declared.Verdict.the-variants.{Accepted}
 use Rattle.rules.specs.Refusals.{firstRefusal}
 use Rattle.rules.specs.StoredTable.{noRow, recordsOf, rowOf, spareOf, countOf, recordsStart, storedRows, storedSpares, checksFrom, recordsVerdict, trailerVerdict, answer, readOf}
+use Rattle.rules.proofs.Bytes.{records-count}
 use Rattle.rules.proofs.Checks.{count-in, same-spares}
-use Rattle.tables.proofs.Trailer.{readable}
-
-pub records-length : {A : Type 0} (f : List ℕ → ℕ → A) (s : List ℕ) (at n : ℕ) → length (recordsOf f s at n) ≡ n
-records-length f s at zero = refl
-records-length f s at (suc n) = simp length-append (omega (arith, records-length f s at n))
+use Rattle.rules.proofs.Trailer.{readable}
 
 -- an array that is filled from the front: one record more
 pub fill-next : {A : Type 0} (f : List ℕ → ℕ → A) (z : A) (s : List ℕ) (at n : ℕ) → n < 64
@@ -26,7 +23,7 @@ fill-next f z s at n h =
     let e : 64 - n ≡ suc (64 - (n + 1)) = omega arith in
     let xs = recordsOf f s at n in
     let v = f s (at + 12 * n) in
-    rw (e, set-at xs z (replicate (64 - (n + 1)) z) v n (records-length f s at n), ← append-snoc xs v (replicate (64 - (n + 1)) z), add-one)
+    rw (e, set-at xs z (replicate (64 - (n + 1)) z) v n (records-count f s at n), ← append-snoc xs v (replicate (64 - (n + 1)) z), add-one)
 
 -- zeros behind the spare fields change nothing
 zeros-behind : (xs : List ℕ) (n k : ℕ) → _≡_ {A = ℕ} (getD (xs ++ replicate n 0) k 0) (getD xs k 0)
@@ -49,7 +46,7 @@ pub read-is : (s : List ℕ) (n start : ℕ) (rows : List ObjectRow) (spares : L
     → v ≡ recordsVerdict spares (record { count = n; rows = rows }) → answer v (record { count = n; rows = rows }) ≡ readOf s
 read-is s n start rows spares v t en es er ep ev =
     let k = readable s t in
-    let l : length (storedRows s) ≡ countOf s = records-length rowOf s (recordsStart s) (countOf s) in
+    let l : length (storedRows s) ≡ countOf s = records-count rowOf s (recordsStart s) (countOf s) in
     let er′ : rows ≡ storedRows s ++ replicate (64 - countOf s) noRow = rw (← en, ← es) er in
     let ep′ : spares ≡ storedSpares s ++ replicate (64 - countOf s) 0 = rw (← en, ← es) ep in
     let c : recordsVerdict spares (record { count = n; rows = rows }) ≡ checksFrom (storedSpares s) 0 [] (storedRows s) =

@@ -1,3 +1,3 @@
-pub mod Trailer
 pub mod Filling
 pub mod Door
+pub mod Wrote

@@ -1,11 +1,15 @@
-// Both doors and the choice: stored bytes to a table, lent rows to a table, and the records part of the site or the factory table.
+// Both doors, the choice and the way back: stored bytes to a table, lent rows to a table, the records part of the site or the factory
+// table, and a table to stored bytes.
 // Any bytes and any rows may be handed in; what is bad is refused with the number and the place of document 01.
+mod writing;
+
 use rules::ObjectRow;
 use rules::Part;
 use rules::ReadTable;
 use rules::Refusal;
 use rules::Table;
 use rules::Verdict;
+pub use writing::write;
 ghost use mathlib.Core.Path.{_≡_};
 ghost use mathlib.Core.List.{_++_};
 ghost use Prim.Native.Nat.{_+_, _-_, _*_, _≤_, _<_};

@@ -57,6 +57,19 @@ pub fn table(rows: &[ObjectRow]) -> ffi::Table {
     table
 }
 
+/// A table as it is handed in, with a count that its rows need not have.
+pub fn handed_in(count: usize, rows: &[ObjectRow]) -> ffi::Table {
+    ffi::Table { count, ..table(rows) }
+}
+
+/// What is refused has length 0.
+pub fn written(answer: &Result<usize, Refusal>) -> ffi::Written {
+    ffi::Written {
+        verdict: verdict(answer),
+        length: *answer.as_ref().unwrap_or(&0),
+    }
+}
+
 /// A refused read hands back a table with count 0 and every field zero.
 pub fn read_answer(answer: &Result<Vec<ObjectRow>, Refusal>) -> ffi::ReadAnswer {
     ffi::ReadAnswer {

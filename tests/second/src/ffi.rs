@@ -116,6 +116,13 @@ pub struct Part {
     pub length: usize,
 }
 
+#[repr(C)]
+#[derive(Clone, Copy, PartialEq, Eq, Debug)]
+pub struct Written {
+    pub verdict: Verdict,
+    pub length: usize,
+}
+
 impl Default for Table {
     fn default() -> Table {
         let rows = [ObjectRow::default(); ROWS];
@@ -185,6 +192,7 @@ extern "C" {
     fn channelfox_slot(run: *mut Run, stolen: bool) -> Verdict;
     fn channelfox_advance(run: Run, stolen: *const u8, length: usize) -> RunAnswer;
     fn channelfox_read_value(run: Run, id: u16) -> Reading;
+    fn channelfox_write(table: Table, buffer: *mut u8, length: usize) -> Written;
 }
 
 /// What was lent for reading has been changed, which the paper never allows.
@@ -214,6 +222,29 @@ fn lend<T: Copy + PartialEq, A>(
 }
 
 const BYTE: u8 = 0xA5;
+
+/// Something beside the buffer that was lent for writing has been touched, which the paper never allows.
+#[derive(Clone, Copy, PartialEq, Eq, Debug)]
+pub struct BesideTouched;
+
+/// How many bytes lie on either side of a buffer: more than any table has, so that what is written beyond a buffer is
+/// seen and does no harm, however small the buffer is. An odd number too.
+const BESIDE: usize = 1501;
+
+/// Lends a copy of the buffer for writing, and hands back what has become of it.
+fn lend_to_write<A>(buffer: &[u8], call: impl FnOnce(*mut u8, usize) -> A) -> Result<(A, Vec<u8>), BesideTouched> {
+    let mut lent = vec![BYTE; BESIDE];
+    lent.extend_from_slice(buffer);
+    lent.extend_from_slice(&[BYTE; BESIDE]);
+    let answer = call(lent[BESIDE..].as_mut_ptr(), buffer.len());
+    let beyond = lent.split_off(BESIDE + buffer.len());
+    let after = lent.split_off(BESIDE);
+    if lent == [BYTE; BESIDE] && beyond == [BYTE; BESIDE] {
+        Ok((answer, after))
+    } else {
+        Err(BesideTouched)
+    }
+}
 
 /// Reads a stored table.
 pub fn read(bytes: &[u8]) -> Result<ReadAnswer, LentChanged> {
@@ -286,4 +317,12 @@ pub fn advance(run: &Run, stolen: &[u8]) -> Result<RunAnswer, LentChanged> {
 pub fn read_value(run: &Run, id: u16) -> Reading {
     // Safety: all of it goes by value.
     unsafe { channelfox_read_value(*run, id) }
+}
+
+/// Writes a table to a copy of the buffer, and hands back what has become of it.
+pub fn write(table: &Table, buffer: &[u8]) -> Result<(Written, Vec<u8>), BesideTouched> {
+    lend_to_write(buffer, |at, length| {
+        // Safety: the pointer goes with its length, and the buffer is lent to the call alone.
+        unsafe { channelfox_write(*table, at, length) }
+    })
 }

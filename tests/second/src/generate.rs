@@ -183,6 +183,30 @@ pub fn garbage_row(random: &mut Random) -> ObjectRow {
     }
 }
 
+/// A table as it is handed in: a count, mostly that of its rows, and 64 rows, good or spoiled, with zero or anything
+/// beyond the count.
+pub fn handed_in(random: &mut Random) -> (usize, Vec<ObjectRow>) {
+    let count = object_count(random);
+    let times = random.pick(&[Times::Short, Times::Middle, Times::Long, Times::Tied, Times::Ends]);
+    let mut rows = object_rows(random, count, times);
+    let mut told_count = count;
+    match random.below(16) {
+        0..=2 => spoil_rows(random, &mut rows),
+        3 => told_count = bad_count(random, count),
+        4 => {
+            told_count = bad_count(random, count);
+            spoil_rows(random, &mut rows);
+        }
+        _ => {}
+    }
+    let garbage = random.one_in(2);
+    rows.resize_with(MOST_OBJECTS, || match garbage {
+        true => garbage_row(random),
+        false => ObjectRow::default(),
+    });
+    (told_count, rows)
+}
+
 /// Rows that can be planned, with their plan.
 pub fn planned_rows(random: &mut Random, count: usize) -> (Vec<ObjectRow>, Vec<PlanRow>) {
     loop {

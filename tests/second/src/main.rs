@@ -5,6 +5,7 @@
 
 #![deny(unsafe_code)]
 
+mod buffers;
 mod cform;
 #[allow(unsafe_code)]
 mod ffi;
@@ -14,6 +15,7 @@ mod part_plans;
 mod part_runs;
 mod part_states;
 mod part_tables;
+mod part_writing;
 mod random;
 mod stored;
 mod tally;
@@ -27,13 +29,14 @@ const SEED: u64 = 0x4D4C_2026_0001;
 /// A part of the comparison: its title, and what it does with a seed.
 type Part = (&'static str, fn(u64) -> Result<(), String>);
 
-const PARTS: [Part; 6] = [
+const PARTS: [Part; 7] = [
     ("part 1: stored tables", part_tables::stored_tables),
     ("part 2: the choice and the second door", part_tables::choices_and_lists),
     ("part 3: row tables planned", part_plans::row_tables),
     ("part 4: starts and runs", part_runs::starts_and_runs),
     ("part 5: damaged run states", part_states::damaged_states),
     ("part 6: the paper's own numbers", part_numbers::numbers),
+    ("part 7: tables written", part_writing::written_tables),
 ];
 
 fn main() -> ExitCode {

@@ -10,6 +10,7 @@ pub fn numbers(_seed: u64) -> Result<(), String> {
     let mut tally = Tally::new();
     plans(&mut tally)?;
     stored_bytes(&mut tally)?;
+    written_bytes(&mut tally)?;
     figure_2(&mut tally)?;
     three_stolen_slots(&mut tally)?;
     the_turn_of_the_clock(&mut tally)?;
@@ -59,6 +60,27 @@ fn stored_bytes(tally: &mut Tally) -> Result<(), String> {
         agree("channelfox_read", &expected, &ffi::read(&bytes), || hex(&bytes))?;
         tally.add("stored bytes of the paper", 1);
     }
+    Ok(())
+}
+
+/// The 56 bytes of the plan program, written into 60.
+fn written_bytes(tally: &mut Tally) -> Result<(), String> {
+    let mut rows = Vec::new();
+    let mut bytes = Vec::new();
+    for (id, validity) in [(40, 20), (10, 4), (30, 8), (20, 5)] {
+        rows.push(ObjectRow {
+            id: u16::from(id),
+            cost: 1,
+            validity: u32::from(validity),
+        });
+        bytes.extend([id, 0, 0, 0, 1, 0, 0, 0, validity, 0, 0, 0]);
+    }
+    bytes.extend([0x38, 0, 0, 0, 4, 0, 0x4D, 0x4C]);
+    bytes.extend([0xEE; 4]);
+    let library = ffi::write(&cform::table(&rows), &[0xEE; 60]);
+    let expected = (cform::written(&Ok(56)), bytes);
+    agree("channelfox_write", &Ok(expected), &library, || format!("{rows:?}"))?;
+    tally.add("stored bytes of the paper, written", 1);
     Ok(())
 }
 

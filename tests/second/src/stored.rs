@@ -72,6 +72,27 @@ pub fn bad(random: &mut Random) -> Vec<u8> {
     }
 }
 
+/// A stored table that reads and has no unread bytes, most of the time; sometimes any.
+pub fn to_write_again(random: &mut Random) -> Vec<u8> {
+    match random.below(4) {
+        0 => any(random),
+        1 => {
+            let bytes = without_gap(random);
+            flip_bits(random, bytes)
+        }
+        _ => without_gap(random),
+    }
+}
+
+/// A stored table that reads and has no unread bytes.
+fn without_gap(random: &mut Random) -> Vec<u8> {
+    let mut draft = good_draft(random);
+    draft.before.clear();
+    draft.between.clear();
+    draft.distance = draft.length() as u32;
+    draft.bytes()
+}
+
 fn good_draft(random: &mut Random) -> Draft {
     let count = object_count(random);
     let times = match random.below(16) {

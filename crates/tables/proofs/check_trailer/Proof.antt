@@ -1,7 +1,7 @@
 -- `tables::check_trailer` meets its contract: each return is one check of the trailer. Assumes nothing.
 use mathlib.Core.Path.{sym}
 use native.Mathlib.Omega.{arith}
-use Rattle.tables.proofs.Trailer.{too-short, too-long, wrong-mark, no-record, too-many, too-near, too-far, in-order}
+use Rattle.rules.proofs.Trailer.{too-short, too-long, wrong-mark, no-record, too-many, too-near, too-far, in-order}
 use borrow.Author.Needs.{needs}
 use Rattle.tables.proofs.check_trailer.Statement.{statement}
 use Rattle.tables.proofs.check_trailer.Tie as tie

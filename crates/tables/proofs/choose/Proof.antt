@@ -2,7 +2,7 @@
 use mathlib.Core.Path.{refl}
 use native.Mathlib.Nat.{add-sub-cancel-left}
 use native.Mathlib.Omega.{arith}
-use Rattle.tables.proofs.Trailer.{chosen-within}
+use Rattle.rules.proofs.Trailer.{chosen-within}
 use borrow.Author.Needs.{needs}
 use Rattle.tables.proofs.choose.Statement.{statement}
 use Rattle.tables.proofs.choose.Tie as tie

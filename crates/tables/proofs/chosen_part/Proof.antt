@@ -1,6 +1,6 @@
 -- `tables::chosen_part` meets its contract. Assumes nothing.
 use mathlib.Core.Path.{sym, _∙_}
-use Rattle.tables.proofs.Trailer.{reads-trailer}
+use Rattle.rules.proofs.Trailer.{reads-trailer}
 use borrow.Author.Needs.{needs}
 use Rattle.tables.proofs.chosen_part.Statement.{statement}
 use Rattle.tables.proofs.chosen_part.Tie as tie

@@ -1,7 +1,7 @@
 -- `tables::read` meets its contract: the trailer's refusal, or the answer of the checks on the filled arrays. Assumes nothing.
 use mathlib.Core.Path.{sym, _∙_}
 use native.Mathlib.Omega.{arith}
-use Rattle.tables.proofs.Trailer.{readable}
+use Rattle.rules.proofs.Trailer.{readable}
 use Rattle.tables.proofs.Filling.{read-is}
 use borrow.Author.Needs.{needs}
 use Rattle.tables.proofs.read.Statement.{statement}

@@ -2,7 +2,7 @@
 use mathlib.Core.Path.{_≡_, sym, ap, _∙_}
 use Rattle.rules.specs.declared.ReadTable.{ReadTable}
 use Rattle.rules.specs.StoredTable.{readVerdict, readOf, tableOf, storedRows}
-use Rattle.tables.proofs.Trailer.{answer-verdict}
+use Rattle.rules.proofs.Trailer.{answer-verdict}
 use borrow.Author.Needs.{needs}
 use Rattle.tables.proofs.reads.Statement.{statement}
 use Rattle.tables.proofs.reads.Tie as tie

@@ -1,6 +1,6 @@
 -- `tables::records_part` meets its contract. Assumes nothing.
 use native.Mathlib.Omega.{arith}
-use Rattle.tables.proofs.Trailer.{readable}
+use Rattle.rules.proofs.Trailer.{readable}
 use borrow.Author.Needs.{needs}
 use Rattle.tables.proofs.records_part.Statement.{statement}
 use Rattle.tables.proofs.records_part.Tie as tie

@@ -1,0 +1,18 @@
+-- `channelfox::written_form` meets its contract. Assumes nothing.
+use borrow.Author.Needs.{needs}
+use Rattle.channelfox.proofs.written_form.Statement.{statement}
+use Rattle.channelfox.proofs.written_form.Tie as tie
+use Rattle.channelfox.proofs.written_form.Reads as reads
+use Rattle.channelfox.proofs.written_form.Lts as lts
+use Rattle.channelfox.proofs.forms.verdict_form.Reads as verdict-form-reads
+
+-- src/lib.rt:117:18
+verdict-form-requires : tie.Need-verdict-form-requires
+verdict-form-requires c κs = search needs
+
+-- src/lib.rt:112:1
+returns : tie.Need-returns
+returns c = rw (c .verdict-form .ensures)
+
+pub written-form-spec : {M : Type 1} → statement M
+written-form-spec = tie.close (tie.spec verdict-form-requires returns)

@@ -1,0 +1,49 @@
+-- `tables::writing::put16` meets its contract. Assumes nothing.
+use native.Mathlib.Omega.{arith}
+use native.Mathlib.Numerals.{add-one}
+use lib.ListN.{length-set}
+use borrow.Author.Needs.{needs}
+use Rattle.tables.proofs.writing.put16.Statement.{statement}
+use Rattle.tables.proofs.writing.put16.Tie as tie
+use Rattle.tables.proofs.writing.put16.Reads as reads
+use Rattle.tables.proofs.writing.put16.Lts as lts
+
+-- src/writing.rt:18:18
+cast-buffer : tie.Need-cast-buffer
+cast-buffer c = search needs
+
+-- src/writing.rt:18:5
+slice-write-buffer : tie.Need-slice-write-buffer
+slice-write-buffer c = search needs
+
+-- src/writing.rt:19:22
+cast-buffer-2 : tie.Need-cast-buffer-2
+cast-buffer-2 c = search needs
+
+-- src/writing.rt:19:12
+add-buffer : tie.Need-add-buffer
+add-buffer c = search needs
+
+-- src/writing.rt:19:5
+slice-write-buffer-2 : tie.Need-slice-write-buffer-2
+slice-write-buffer-2 c = simp length-set (omega (arith, c .pre))
+
+-- src/writing.rt:14:1
+same-length : tie.Need-same-length
+same-length c = search needs
+
+-- src/writing.rt:14:1
+returns : tie.Need-returns
+returns c = rw add-one
+
+pub put16-spec : {M : Type 1} → statement M
+put16-spec =
+    tie.close
+    (tie.spec
+    cast-buffer
+    slice-write-buffer
+    cast-buffer-2
+    add-buffer
+    slice-write-buffer-2
+    same-length
+    returns)

@@ -1,0 +1,93 @@
+-- `tables::write` meets its contract: each return is one case. Assumes nothing.
+use Prim.Native.Nat.{ℕ, _*_}
+use mathlib.Core.Path.{_≡_, sym, ap, _∙_}
+use mathlib.Core.List.{List}
+use native.Mathlib.Omega.{arith}
+use denote.Ref.{now}
+use lib.ListN.{length, length-map}
+use lib.Seq.{sets, length-sets}
+use Rattle.rules.specs.StoredTable.{rowsIn}
+use Rattle.rules.specs.Writing.{recordsBytes, trailerBytes}
+use Rattle.tables.proofs.Wrote.{few-rows, rows-refused, room-refused, all-written}
+use borrow.Author.Needs.{needs}
+use Rattle.tables.proofs.writing.write.Statement.{statement}
+use Rattle.tables.proofs.writing.write.Tie as tie
+use Rattle.tables.proofs.writing.write.Reads as reads
+use Rattle.tables.proofs.writing.write.Lts as lts
+use Rattle.rules.proofs.check_table.Reads as check-table-reads
+use Rattle.tables.proofs.writing.put_records.Reads as put-records-reads
+use Rattle.tables.proofs.writing.put_trailer.Reads as put-trailer-reads
+
+-- src/writing.rt:66:9
+check-table-requires : tie.Need-check-table-requires
+check-table-requires c κs = search needs
+
+enum-told : tie.Need-enum-told
+enum-told c = search needs
+
+-- src/writing.rt:68:9
+enum-told-2 : tie.Need-enum-told-2
+enum-told-2 c = search needs
+
+-- src/writing.rt:68:9
+returns : tie.Need-returns
+returns c =
+    let a = c .before .before .before .before .args in
+    rows-refused (a .table) (now (a .buffer)) _ _ (sym (c .before .before .check-table .ensures)) (c .enum-told2 .given .1)
+
+-- src/writing.rt:71:19
+mul-records : tie.Need-mul-records
+mul-records c = omega (arith, few-rows (c .before .before .before .before .args .table) (sym (c .before .before .check-table .ensures) ∙ c .enum-told .given .1))
+
+-- src/writing.rt:72:23
+add-if1 : tie.Need-add-if1
+add-if1 c = omega (arith, few-rows (c .before .before .before .before .args .table) (sym (c .before .before .check-table .ensures) ∙ c .enum-told .given .1))
+
+-- src/writing.rt:73:9
+returns-2 : tie.Need-returns-2
+returns-2 c = let a = c .before .before .before .before .before .args in room-refused (a .table) (now (a .buffer)) (sym (c .before .before .before .check-table .ensures) ∙ c .before .enum-told .given .1) (c .if1 .taken)
+
+-- src/writing.rt:79:5
+put-records-requires : tie.Need-put-records-requires
+put-records-requires c κs = let few = few-rows (c .before .before .before .before .before .before .before .args .table) (sym (c .before .before .before .before .before .check-table .ensures) ∙ c .before .before .before .enum-told .given .1) in (few, omega (arith, c .before .before .if1 .left))
+
+-- src/writing.rt:80:5
+put-trailer-requires : tie.Need-put-trailer-requires
+put-trailer-requires c κs =
+    let a = c .before .before .before .before .before .before .before .before .before .before .before .args in
+    let few = few-rows (a .table) (sym (c .before .before .before .before .before .before .before .before .before .check-table .ensures) ∙ c .before .before .before .before .before .before .before .enum-told .given .1) in
+    let e : length (c .before .before .before .put-records .last .0) ≡ length (now (a .buffer)) = rw (c .before .before .before .put-records .ensures) (length-sets (now (a .buffer)) 0 (recordsBytes (rowsIn (a .table)))) in
+    (few, omega (arith, e, c .before .before .before .before .before .before .if1 .left))
+
+-- src/writing.rt:83:17
+add-t7 : tie.Need-add-t7
+add-t7 c = search needs
+
+-- src/writing.rt:63:1
+same-length : tie.Need-same-length
+same-length c = search needs
+
+-- src/writing.rt:63:1
+returns-3 : tie.Need-returns-3
+returns-3 c =
+    let a = c .before .before .before .before .before .before .before .before .before .before .before .before .before .before .args in
+    let long = simp length-map at (c .before .before .before .before .before .before .before .before .before .before .before .before .before .before .good .0 .1 .1 .1 .0 .1 .0 .1) in
+    let put = c .before .before .put-trailer .ensures ∙ ap (λ (s : List ℕ). sets s (12 * a .table .count) (trailerBytes (a .table .count))) (c .before .before .before .before .before .before .put-records .ensures) in
+    all-written (a .table) (now (a .buffer)) (sym (c .before .before .before .before .before .before .before .before .before .before .before .before .check-table .ensures) ∙ c .before .before .before .before .before .before .before .before .before .before .enum-told .given .1) (c .before .before .before .before .before .before .before .before .before .before .enum-told .given .1) long (c .before .before .before .before .before .before .before .before .before .if1 .left) put
+
+pub write-spec : {M : Type 1} → statement M
+write-spec =
+    tie.close
+    (tie.spec
+    check-table-requires
+    enum-told
+    enum-told-2
+    returns
+    mul-records
+    add-if1
+    returns-2
+    put-records-requires
+    put-trailer-requires
+    add-t7
+    same-length
+    returns-3)

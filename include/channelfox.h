@@ -21,7 +21,9 @@
  *   14 no object with that id                               0
  *   15 distance above the number of bytes                   0
  *   16 the buffer is smaller than what is to be written     0
- * The stored table is checked for 1 to 5, then 15, then 6 to 9 record by record.
+ *   17 line not of the form id,cost,validity CR LF          line, counted from 0
+ * The stored table is checked for 1 to 5, then 15, then 6 to 9 record by record; a sheet for 2, then 17 line by line, then 4, then
+ * 7, 8, 9 row by row.
  */
 #ifndef CHANNELFOX_H
 #define CHANNELFOX_H
@@ -132,6 +134,17 @@ channelfox_read_answer channelfox_rows(const channelfox_object_row *rows, size_t
  * beyond them is touched. Refusals 4, 7, 8, 9, then 16 where the buffer has fewer bytes, leave the buffer as it is. Rows of the
  * table beyond its count are not read. What is written reads back as the same rows in the same order. */
 channelfox_written channelfox_write(channelfox_table table, uint8_t *buffer, size_t length);
+
+/* Reads a reseller's sheet: lines of id, cost and validity, parted by commas and each ended by CR LF, up to 4,096 bytes. Numbers are
+ * decimal digits without leading zero (0 itself is "0"), an id up to 65,535 and the others up to 4,294,967,295; a header, a sign, a
+ * space, a quote, an empty field or a last line without CR LF is no such line. Refusals 2, then 17 at the first line that is not of
+ * the form, then 4 where there is no line or more than 64, then 7, 8, 9, with count 0 and every field zero. */
+channelfox_read_answer channelfox_import(const uint8_t *bytes, size_t length);
+
+/* Writes a table as a sheet at the start of the buffer, a line for each row in their order, and nothing beyond it is touched. Refusals
+ * 4, 7, 8, 9, then 16 where the sheet has more bytes than the buffer, leave the buffer as it is; 1,472 bytes are always enough. What is
+ * exported imports as the same rows in the same order, and every sheet that imports, exported again, gives the same bytes. */
+channelfox_written channelfox_export(channelfox_table table, uint8_t *buffer, size_t length);
 
 /* The records part of the site table if that reads without refusal, otherwise of the factory table if that one does,
  * otherwise the empty part at the start of the factory bytes (source 2, start 0, length 0). */

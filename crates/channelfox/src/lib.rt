@@ -6,6 +6,7 @@ ghost use mathlib.Core.Path.{_≡_};
 ghost use lib.ListN.{length};
 ghost use Rattle.rules.specs.StoredTable.{readOf, doorOf, chosenPart};
 ghost use Rattle.rules.specs.Writing.{writtenOf, bufferAfter};
+ghost use Rattle.rules.specs.Sheet.{importOf, exportedOf, sheetAfter};
 ghost use Rattle.rules.specs.Order.{rankedOf};
 ghost use Rattle.rules.specs.Deadlines.{planOf};
 ghost use Rattle.rules.specs.Run.{startOf};
@@ -199,6 +200,20 @@ pub extern "C" fn channelfox_write(table: Table, buffer: &mut [u8]) -> CWritten
     ensures { λ r. ⌜ (now (buffer .exit) ≡ bufferAfter table (now (buffer .entry))) × (r ≡ writtenForm (writtenOf table (length (now (buffer .entry))))) ⌝ }
 {
     written_form(tables::write(table, buffer))
+}
+
+#[no_mangle]
+pub extern "C" fn channelfox_import(bytes: &[u8]) -> CReadAnswer
+    ensures { λ r. ⌜ r ≡ readForm (importOf (now (bytes .entry))) ⌝ }
+{
+    read_form(sheets::import(bytes))
+}
+
+#[no_mangle]
+pub extern "C" fn channelfox_export(table: Table, buffer: &mut [u8]) -> CWritten
+    ensures { λ r. ⌜ (now (buffer .exit) ≡ sheetAfter table (now (buffer .entry))) × (r ≡ writtenForm (exportedOf table (length (now (buffer .entry))))) ⌝ }
+{
+    written_form(sheets::export(table, buffer))
 }
 
 #[no_mangle]

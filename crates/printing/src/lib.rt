@@ -1,4 +1,6 @@
-// What the programs print with: text, numbers and refusals, to standard output.
+// What the programs print with: text, numbers and refusals, to standard output; and refusals to standard error, for programs whose output
+// is a file.
+use libc::STDERR_FILENO;
 use libc::STDOUT_FILENO;
 use rules::Refusal;
 
@@ -18,4 +20,13 @@ pub fn refused(refusal: Refusal, place: usize) {
     number(rules::refusal_number(refusal) as u64);
     text(b" at ");
     number(place as u64);
+}
+
+// "refused N at K" with its line end, to standard error.
+pub fn complaint(refusal: Refusal, place: usize) {
+    io::write_all(STDERR_FILENO, b"refused ");
+    io::print_decimal(STDERR_FILENO, rules::refusal_number(refusal) as u64);
+    io::write_all(STDERR_FILENO, b" at ");
+    io::print_decimal(STDERR_FILENO, place as u64);
+    io::write_all(STDERR_FILENO, b"\n");
 }

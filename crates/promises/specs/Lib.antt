@@ -2,6 +2,7 @@ pub mod Exactly
 pub mod OnlyOrder
 pub mod AnyRecordOrder
 pub mod RoundTrip
+pub mod Sheets
 pub mod SamePlan
 pub mod Tests
 pub mod History

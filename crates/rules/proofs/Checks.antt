@@ -16,7 +16,7 @@ use Rattle.rules.specs.declared.Verdict.the-variants.{Accepted, Refused}
 use Rattle.rules.specs.declared.Refusal.{Refusal}
 use Rattle.rules.specs.declared.Refusal.the-variants.{CountRange, SpareUsed, CostRange, ValidityRange, IdRepeated}
 use Rattle.rules.specs.Refusals.{firstRefusal}
-use Rattle.rules.specs.StoredTable.{noRow, hasId, inRange, checksFrom, countVerdict, rowsIn, recordsVerdict}
+use Rattle.rules.specs.StoredTable.{noRow, hasId, inRange, checksFrom, countVerdict, rowsIn, tableVerdict, recordsVerdict}
 use Rattle.rules.proofs.Lists.{Every}
 
 -- one more row that has not the id
@@ -143,6 +143,9 @@ count-said n e =
     let a = not-met (ltb n 1) CountRange 0 _ e in
     let b = not-met (ltb 64 n) CountRange 0 _ (a .1) in
     (ltb-false n 1 (a .0), ltb-false 64 n (b .0))
+
+pub few-rows : (table : Table) → tableVerdict table ≡ Accepted → table .count ≤ 64
+few-rows table e = count-said (table .count) (both-accept (countVerdict (table .count)) _ e .0) .1
 
 both-true : (a b : Bool) → a && b ≡ true → (a ≡ true) × (b ≡ true)
 both-true true b e = (refl, e)

@@ -1,7 +1,9 @@
 pub mod Balance
 pub mod Bytes
 pub mod Checks
+pub mod Digits
 pub mod Lists
 pub mod Places
 pub mod Put
+pub mod SheetLines
 pub mod Trailer

@@ -1,6 +1,6 @@
 -- Document 01, "Numbers to hold against it": those marked T, and rows that break several rules at once, by one statement over a table of them.
 -- Assumes nothing: the definitions are computed.
-use Prim.Native.Nat.{ℕ}
+use Prim.Native.Nat.{ℕ, zero, suc}
 use mathlib.Core.Path.{_≡_, refl}
 use mathlib.Core.List.{List, [], _∷_, _++_, map}
 use lib.ListN.{take, replicate}
@@ -13,6 +13,7 @@ use Rattle.rules.specs.declared.Verdict.the-variants.{Accepted, Refused}
 use Rattle.rules.specs.Refusals.{numberOf}
 use Rattle.rules.specs.StoredTable.{tableOf, readVerdict}
 use Rattle.rules.specs.Writing.{tableBytes, bufferAfter}
+use Rattle.rules.specs.Sheet.{decimal, importOf, sheetBytes, sheetAfter}
 use Rattle.rules.specs.Deadlines.{planOf}
 
 -- an object row: id, cost, validity
@@ -117,3 +118,70 @@ buffers-right = refl
 
 pub stored-right : map (λ (c : StoredCase). refusalOf (readVerdict (c .bytes))) storedTable ≡ map (λ (c : StoredCase). c .refusal) storedTable
 stored-right = refl
+
+-- ── The sheet ──
+
+-- number and place of an import's refusal, and how many rows it hands back
+abbrev pub imported : List ℕ → ℕ × ℕ × ℕ
+imported s = let r = importOf s in (refusalOf (r .verdict) .0, refusalOf (r .verdict) .1, r .table .count)
+
+-- the line "1,1,4"
+abbrev pub good : List ℕ
+good = 49 ∷ 44 ∷ 49 ∷ 44 ∷ 52 ∷ 13 ∷ 10 ∷ []
+
+pub record SheetCase : Type 0 where
+  pub sheet : List ℕ
+  pub found : ℕ × ℕ × ℕ
+
+abbrev pub sheetTable : List SheetCase
+sheetTable =
+    record { sheet = good; found = (0, 0, 1) }
+    -- "+1,1,4"; " 1,1,4"; "\"1\",1,4"; ",1,4"; "01,1,4"; "1,1,4,"; "1,1"
+    ∷ record { sheet = 43 ∷ good; found = (17, 0, 0) }
+    ∷ record { sheet = 32 ∷ good; found = (17, 0, 0) }
+    ∷ record { sheet = 34 ∷ 49 ∷ 34 ∷ 44 ∷ 49 ∷ 44 ∷ 52 ∷ 13 ∷ 10 ∷ []; found = (17, 0, 0) }
+    ∷ record { sheet = 44 ∷ 49 ∷ 44 ∷ 52 ∷ 13 ∷ 10 ∷ []; found = (17, 0, 0) }
+    ∷ record { sheet = 48 ∷ good; found = (17, 0, 0) }
+    ∷ record { sheet = 49 ∷ 44 ∷ 49 ∷ 44 ∷ 52 ∷ 44 ∷ 13 ∷ 10 ∷ []; found = (17, 0, 0) }
+    ∷ record { sheet = 49 ∷ 44 ∷ 49 ∷ 13 ∷ 10 ∷ []; found = (17, 0, 0) }
+    -- the id 65535 and 65536; the cost 4294967295 (7) and 4294967296; the number 0 as an id, and as a cost (7)
+    ∷ record { sheet = 54 ∷ 53 ∷ 53 ∷ 51 ∷ 53 ∷ 44 ∷ 49 ∷ 44 ∷ 52 ∷ 13 ∷ 10 ∷ []; found = (0, 0, 1) }
+    ∷ record { sheet = 54 ∷ 53 ∷ 53 ∷ 51 ∷ 54 ∷ 44 ∷ 49 ∷ 44 ∷ 52 ∷ 13 ∷ 10 ∷ []; found = (17, 0, 0) }
+    ∷ record { sheet = 49 ∷ 44 ∷ 52 ∷ 50 ∷ 57 ∷ 52 ∷ 57 ∷ 54 ∷ 55 ∷ 50 ∷ 57 ∷ 53 ∷ 44 ∷ 52 ∷ 13 ∷ 10 ∷ []; found = (7, 0, 0) }
+    ∷ record { sheet = 49 ∷ 44 ∷ 52 ∷ 50 ∷ 57 ∷ 52 ∷ 57 ∷ 54 ∷ 55 ∷ 50 ∷ 57 ∷ 54 ∷ 44 ∷ 52 ∷ 13 ∷ 10 ∷ []; found = (17, 0, 0) }
+    ∷ record { sheet = 48 ∷ 44 ∷ 49 ∷ 44 ∷ 52 ∷ 13 ∷ 10 ∷ []; found = (0, 0, 1) }
+    ∷ record { sheet = 49 ∷ 44 ∷ 48 ∷ 44 ∷ 52 ∷ 13 ∷ 10 ∷ []; found = (7, 0, 0) }
+    -- a line ended by CR alone, by LF alone, and by nothing
+    ∷ record { sheet = 49 ∷ 44 ∷ 49 ∷ 44 ∷ 52 ∷ 13 ∷ good; found = (17, 0, 0) }
+    ∷ record { sheet = 49 ∷ 44 ∷ 49 ∷ 44 ∷ 52 ∷ 10 ∷ good; found = (17, 0, 0) }
+    ∷ record { sheet = good ++ 50 ∷ 44 ∷ 49 ∷ 44 ∷ 52 ∷ []; found = (17, 1, 0) }
+    -- no line at all; one empty line; an empty line at the end
+    ∷ record { sheet = []; found = (4, 0, 0) }
+    ∷ record { sheet = 13 ∷ 10 ∷ []; found = (17, 0, 0) }
+    ∷ record { sheet = good ++ 13 ∷ 10 ∷ []; found = (17, 1, 0) }
+    -- the same id again; a line that is refused with 7 ahead of one of another form, which comes first
+    ∷ record { sheet = good ++ good; found = (9, 1, 0) }
+    ∷ record { sheet = 49 ∷ 44 ∷ 48 ∷ 44 ∷ 52 ∷ 13 ∷ 10 ∷ 13 ∷ 10 ∷ []; found = (17, 1, 0) }
+    ∷ []
+
+pub sheets-right : map (λ (c : SheetCase). imported (c .sheet)) sheetTable ≡ map (λ (c : SheetCase). c .found) sheetTable
+sheets-right = refl
+
+-- more than 64 lines, and the same with a bad line behind them; more than 4,096 bytes, whatever they are
+abbrev pub times : ℕ → List ℕ → List ℕ
+times zero s = []
+times (suc n) s = s ++ times n s
+
+pub many-lines : map imported (times 65 good ∷ (times 65 good ++ 10 ∷ []) ∷ replicate 4097 0 ∷ []) ≡ (4, 0, 0) ∷ (17, 65, 0) ∷ (2, 0, 0) ∷ []
+many-lines = refl
+
+-- what is exported: the lines in the given order, "0" as itself, no leading zero and no zero lost
+pub exported-right : sheetBytes (row 10 1000 205 ∷ row 0 1 4 ∷ []) ≡ 49 ∷ 48 ∷ 44 ∷ 49 ∷ 48 ∷ 48 ∷ 48 ∷ 44 ∷ 50 ∷ 48 ∷ 53 ∷ 13 ∷ 10 ∷ 48 ∷ 44 ∷ 49 ∷ 44 ∷ 52 ∷ 13 ∷ 10 ∷ []
+unfolding decimal
+exported-right = refl
+
+-- a buffer of nines after exporting: one byte more than needed, one byte less (16), and rows that are refused (7)
+pub sheets-left : map (λ (c : List ObjectRow × ℕ). sheetAfter (tableOf (c .0)) (nines (c .1))) ((row 1 1 4 ∷ [], 8) ∷ (row 1 1 4 ∷ [], 6) ∷ (row 1 0 4 ∷ [], 8) ∷ [])
+    ≡ (good ++ nines 1) ∷ nines 6 ∷ nines 8 ∷ []
+unfolding decimal
+sheets-left = refl

@@ -12,14 +12,11 @@ use Rattle.rules.specs.declared.Refusal.{Refusal}
 use Rattle.rules.specs.declared.Refusal.the-variants.{BufferSmall}
 use Rattle.rules.specs.declared.Verdict.{Verdict}
 use Rattle.rules.specs.declared.Verdict.the-variants.{Accepted, Refused}
-use Rattle.rules.specs.StoredTable.{rowsIn, tableVerdict, countVerdict}
+use Rattle.rules.specs.StoredTable.{rowsIn, tableVerdict}
 use Rattle.rules.specs.Writing.{recordsBytes, trailerBytes, tableBytes, writeVerdict, toldOf, leftOf, writtenOf, bufferAfter}
-use Rattle.rules.proofs.Checks.{both-accept, count-said}
+use Rattle.rules.proofs.Checks.{few-rows}
 use Rattle.rules.proofs.Bytes.{records-length, table-length}
 use Rattle.rules.proofs.Put.{put-then, put-start}
-
-pub few-rows : (table : Table) → tableVerdict table ≡ Accepted → table .count ≤ 64
-few-rows table e = count-said (table .count) (both-accept (countVerdict (table .count)) _ e .0) .1
 
 module _ (table : Table) (buffer : List ℕ) where
   -- what is told and left, the verdict being known

@@ -193,6 +193,8 @@ extern "C" {
     fn channelfox_advance(run: Run, stolen: *const u8, length: usize) -> RunAnswer;
     fn channelfox_read_value(run: Run, id: u16) -> Reading;
     fn channelfox_write(table: Table, buffer: *mut u8, length: usize) -> Written;
+    fn channelfox_import(bytes: *const u8, length: usize) -> ReadAnswer;
+    fn channelfox_export(table: Table, buffer: *mut u8, length: usize) -> Written;
 }
 
 /// What was lent for reading has been changed, which the paper never allows.
@@ -227,9 +229,9 @@ const BYTE: u8 = 0xA5;
 #[derive(Clone, Copy, PartialEq, Eq, Debug)]
 pub struct BesideTouched;
 
-/// How many bytes lie on either side of a buffer: more than any table has, so that what is written beyond a buffer is
-/// seen and does no harm, however small the buffer is. An odd number too.
-const BESIDE: usize = 1501;
+/// How many bytes lie on either side of a buffer: more than any table or sheet has, so that what is written beyond a
+/// buffer is seen and does no harm, however small the buffer is. An odd number too.
+const BESIDE: usize = 2001;
 
 /// Lends a copy of the buffer for writing, and hands back what has become of it.
 fn lend_to_write<A>(buffer: &[u8], call: impl FnOnce(*mut u8, usize) -> A) -> Result<(A, Vec<u8>), BesideTouched> {
@@ -324,5 +326,19 @@ pub fn write(table: &Table, buffer: &[u8]) -> Result<(Written, Vec<u8>), BesideT
     lend_to_write(buffer, |at, length| {
         // Safety: the pointer goes with its length, and the buffer is lent to the call alone.
         unsafe { channelfox_write(*table, at, length) }
+    })
+}
+
+/// Reads a sheet.
+pub fn import(bytes: &[u8]) -> Result<ReadAnswer, LentChanged> {
+    // Safety: the pointer goes with its length, and the bytes outlive the call.
+    lend(bytes, BYTE, |at, length| unsafe { channelfox_import(at, length) })
+}
+
+/// Writes a table as a sheet to a copy of the buffer, and hands back what has become of it.
+pub fn export(table: &Table, buffer: &[u8]) -> Result<(Written, Vec<u8>), BesideTouched> {
+    lend_to_write(buffer, |at, length| {
+        // Safety: the pointer goes with its length, and the buffer is lent to the call alone.
+        unsafe { channelfox_export(*table, at, length) }
     })
 }

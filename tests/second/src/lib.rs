@@ -1,5 +1,5 @@
-//! Document 01, with the change requests that have landed, written again from the paper alone: stored tables read and
-//! written, plans and runs. Plain before fast.
+//! Document 01, with the change requests that have landed, written again from the paper alone: stored tables and
+//! sheets, plans and runs. Plain before fast.
 //!
 //! The run is written over true instants, 64-bit numbers that never come round, and holds no lapse marks. What a 32-bit
 //! run must show is derived from them in `states`.
@@ -9,6 +9,7 @@
 pub mod numbers;
 pub mod planning;
 pub mod running;
+pub mod sheet;
 pub mod states;
 pub mod tables;
 pub mod writing;

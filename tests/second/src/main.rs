@@ -13,10 +13,12 @@ mod generate;
 mod part_numbers;
 mod part_plans;
 mod part_runs;
+mod part_sheets;
 mod part_states;
 mod part_tables;
 mod part_writing;
 mod random;
+mod random_sheets;
 mod stored;
 mod tally;
 
@@ -29,7 +31,7 @@ const SEED: u64 = 0x4D4C_2026_0001;
 /// A part of the comparison: its title, and what it does with a seed.
 type Part = (&'static str, fn(u64) -> Result<(), String>);
 
-const PARTS: [Part; 7] = [
+const PARTS: [Part; 8] = [
     ("part 1: stored tables", part_tables::stored_tables),
     ("part 2: the choice and the second door", part_tables::choices_and_lists),
     ("part 3: row tables planned", part_plans::row_tables),
@@ -37,6 +39,7 @@ const PARTS: [Part; 7] = [
     ("part 5: damaged run states", part_states::damaged_states),
     ("part 6: the paper's own numbers", part_numbers::numbers),
     ("part 7: tables written", part_writing::written_tables),
+    ("part 8: the reseller's sheet", part_sheets::sheets),
 ];
 
 fn main() -> ExitCode {

@@ -8,7 +8,8 @@ use lib.ListN.{length, length-map}
 use lib.Seq.{sets, length-sets}
 use Rattle.rules.specs.StoredTable.{rowsIn}
 use Rattle.rules.specs.Writing.{recordsBytes, trailerBytes}
-use Rattle.tables.proofs.Wrote.{few-rows, rows-refused, room-refused, all-written}
+use Rattle.rules.proofs.Checks.{few-rows}
+use Rattle.tables.proofs.Wrote.{rows-refused, room-refused, all-written}
 use borrow.Author.Needs.{needs}
 use Rattle.tables.proofs.writing.write.Statement.{statement}
 use Rattle.tables.proofs.writing.write.Tie as tie

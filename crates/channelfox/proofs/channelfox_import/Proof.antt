@@ -1,0 +1,24 @@
+-- `channelfox_import` meets its contract. Assumes nothing.
+use mathlib.Core.Path.{_∙_}
+use borrow.Author.Needs.{needs}
+use Rattle.channelfox.proofs.channelfox_import.Statement.{statement}
+use Rattle.channelfox.proofs.channelfox_import.Tie as tie
+use Rattle.channelfox.proofs.channelfox_import.Reads as reads
+use Rattle.channelfox.proofs.channelfox_import.Lts as lts
+use Rattle.channelfox.proofs.read_form.Reads as read-form-reads
+use Rattle.sheets.proofs.import.Reads as import-reads
+
+-- src/lib.rt:153:15
+import-requires : tie.Need-import-requires
+import-requires c κs = search needs
+
+-- src/lib.rt:153:5
+read-form-requires : tie.Need-read-form-requires
+read-form-requires c κs = search needs
+
+-- src/lib.rt:149:1
+returns : tie.Need-returns
+returns c = c .read-form .ensures ∙ rw (c .before .import .ensures)
+
+pub channelfox-import-spec : {M : Type 1} → statement M
+channelfox-import-spec = tie.close (tie.spec import-requires read-form-requires returns)

@@ -1,0 +1,116 @@
+-- Export and import are the two ways of one road: what is exported imports as the same rows in the same order, and every sheet that imports,
+-- exported again, gives the same bytes.
+-- Assumes nothing but what each statement says. Bytes are lists of numbers below 256.
+use Prim.Native.Nat.{ℕ, _*_, _≤_}
+use mathlib.Core.Path.{_≡_, refl, ap, ap₂, _∙_}
+use mathlib.Core.Bool.{Bool, true, false, cond}
+use mathlib.Core.List.{List, [], _∷_, _++_}
+use native.Mathlib.Omega.{arith}
+use borrow.Author.Tests.{le-ltb}
+use lib.Dec.{ltb}
+use lib.ListN.{length, take, drop, length-append, length-take}
+use lib.Seq.{take-append-seam, length-take-le}
+use Rattle.rules.specs.declared.ObjectRow.{ObjectRow}
+use Rattle.rules.specs.declared.ReadTable.{ReadTable}
+use Rattle.rules.specs.declared.Table.{Table}
+use Rattle.rules.specs.declared.Refusal.the-variants.{TooLong}
+use Rattle.rules.specs.declared.Verdict.{Verdict}
+use Rattle.rules.specs.declared.Verdict.the-variants.{Accepted, Refused}
+use Rattle.rules.specs.Refusals.{firstRefusal}
+use Rattle.rules.specs.StoredTable.{noTable, tableOf, rowsIn, answer, countVerdict, rowsVerdict, tableVerdict, doorOf}
+use Rattle.rules.specs.Writing.{roomVerdict, toldOf, leftOf}
+use Rattle.rules.specs.Sheet.{lineBytes, sheetBytes, Lines, allRows, badLine, linesOf, linesAnswer, importOf, exportVerdict, exportedOf, sheetAfter}
+use Rattle.rules.proofs.Lists.{Every}
+use Rattle.rules.proofs.Checks.{refused-not, both-accept, count-in, count-said, Ranged, all-ranged}
+use Rattle.rules.proofs.Digits.{decimal-at-most}
+use Rattle.rules.proofs.SheetLines.{Fits, lines-again, lines-back}
+
+-- ── Exported, then imported ──
+
+-- the id is a number of 16 bits
+abbrev pub ShortId : ObjectRow → Type 0
+ShortId r = r .id ≤ 65535
+
+fits : (r : ObjectRow) → Ranged r → ShortId r → Fits r
+fits r g h = record { id-to = h; cost-to = omega (arith, g .cost-to); validity-to = omega (arith, g .validity-to) }
+
+all-fit : (rows : List ObjectRow) → Every Ranged rows → Every ShortId rows → Every Fits rows
+all-fit [] g h = tt
+all-fit (r ∷ rs) g h = (fits r (g .0) (h .0), all-fit rs (g .1) (h .1))
+
+-- a line of numbers in their ranges has at most 23 bytes, so that 64 of them are well below 4,096
+line-at-most : (r : ObjectRow) → Ranged r → ShortId r → length (lineBytes r) ≤ 23
+line-at-most r g h =
+    let i = decimal-at-most 4 (r .id) (omega (arith, h)) in
+    let c = decimal-at-most 6 (r .cost) (omega (arith, g .cost-to)) in
+    let v = decimal-at-most 6 (r .validity) (omega (arith, g .validity-to)) in
+    simp length-append (omega (arith, i, c, v))
+
+sheet-at-most : (rows : List ObjectRow) → Every Ranged rows → Every ShortId rows → length (sheetBytes rows) ≤ 23 * length rows
+sheet-at-most [] g h = omega arith
+sheet-at-most (r ∷ rs) g h = omega (arith, length-append (lineBytes r) (sheetBytes rs), line-at-most r (g .0) (h .0), sheet-at-most rs (g .1) (h .1))
+
+-- so a buffer of 1,472 bytes is enough for every table
+pub room-for-all : (table : Table) → Every ShortId (rowsIn table) → tableVerdict table ≡ Accepted → length (sheetBytes (rowsIn table)) ≤ 1472
+room-for-all table short good =
+    let parts = both-accept (countVerdict (table .count)) (rowsVerdict (rowsIn table)) good in
+    let few = sheet-at-most (rowsIn table) (all-ranged [] 0 [] (rowsIn table) (parts .1)) short in
+    let n : length (rowsIn table) ≤ table .count = simp length-take (omega arith) in
+    omega (arith, few, n, count-said (table .count) (parts .0))
+
+-- what is exported into a buffer imports as the same rows in the same order
+pub exported-imports-back : (table : Table) (buffer : List ℕ) → length (table .rows) ≡ 64 → Every ShortId (rowsIn table) → exportVerdict table (length buffer) ≡ Accepted
+    → importOf (take (exportedOf table (length buffer) .length) (sheetAfter table buffer)) ≡ record { verdict = Accepted; table = tableOf (rowsIn table) }
+exported-imports-back table buffer long short good =
+    let rows = rowsIn table in
+    let checks = both-accept (tableVerdict table) _ good .0 in
+    let parts = both-accept (countVerdict (table .count)) (rowsVerdict rows) checks in
+    let count = count-said (table .count) (parts .0) in
+    let n : length rows ≡ table .count = length-take-le (table .count) (table .rows) (omega arith) in
+    let ranged = all-ranged [] 0 [] rows (parts .1) in
+    let few = sheet-at-most rows ranged short in
+    let s : take (exportedOf table (length buffer) .length) (sheetAfter table buffer) ≡ sheetBytes rows = rw (exportedOf, sheetAfter, good) (take-append-seam (sheetBytes rows) _) in
+    let lines : linesOf (sheetBytes rows) ≡ allRows rows = lines-again (length (sheetBytes rows)) [] rows (omega arith) (all-fit rows ranged short) in
+    let door : doorOf rows ≡ record { verdict = Accepted; table = tableOf rows } = rw (count-in (length rows) (omega (arith, count, n)) (omega (arith, count, n)), parts .1) in
+    rw (s, le-ltb 4096 (length (sheetBytes rows)) (omega (arith, few, n, count)), lines) door
+
+-- ── Imported, then exported ──
+
+answered : (v : Verdict) (table : Table) → answer v table .verdict ≡ Accepted → v ≡ Accepted
+answered Accepted table e = refl
+answered (Refused r k) table e = absurd (refused-not e)
+
+-- what an answer without refusal says of the bytes of the sheet
+record Imported (s : List ℕ) (r : ReadTable) : Type 0 where
+  rows : List ObjectRow
+  bytes : sheetBytes rows ≡ s
+  table-of : r .table ≡ tableOf rows
+  checked : firstRefusal (countVerdict (length rows)) (rowsVerdict rows) ≡ Accepted
+
+imported : (s : List ℕ) → importOf s .verdict ≡ Accepted → Imported s (importOf s)
+imported s good = by-lines (ltb 4096 (length s)) (linesOf s) (lines-back (length s) [] s) good
+  where
+    long : ReadTable
+    long = record { verdict = Refused TooLong 0; table = noTable }
+
+    by-lines : (t : Bool) (l : Lines) → ((rows : List ObjectRow) → l ≡ allRows rows → sheetBytes rows ≡ s) → cond t long (linesAnswer l) .verdict ≡ Accepted → Imported s (cond t long (linesAnswer l))
+    by-lines true l said q = absurd (refused-not q)
+    by-lines false (badLine k) said q = absurd (refused-not q)
+    by-lines false (allRows rows) said q =
+        let v = answered (firstRefusal (countVerdict (length rows)) (rowsVerdict rows)) (tableOf rows) q in
+        record { rows = rows; bytes = said rows refl; table-of = rw v; checked = v }
+
+-- every sheet that imports, exported again, gives the same bytes, and what stands behind them in the buffer stays
+pub imported-exports-back : (s : List ℕ) → importOf s .verdict ≡ Accepted → (buffer : List ℕ) → length s ≤ length buffer
+    → (sheetAfter (importOf s .table) buffer ≡ s ++ drop (length s) buffer) × (exportedOf (importOf s .table) (length buffer) ≡ record { verdict = Accepted; length = length s })
+imported-exports-back s good buffer room =
+    let m = imported s good in
+    let table = tableOf (m .rows) in
+    let rows-in : rowsIn table ≡ m .rows = take-append-seam (m .rows) _ in
+    let bytes : sheetBytes (rowsIn table) ≡ s = ap sheetBytes rows-in ∙ m .bytes in
+    let well-formed : tableVerdict table ≡ Accepted = ap (λ (l : List ObjectRow). firstRefusal (countVerdict (length (m .rows))) (rowsVerdict l)) rows-in ∙ m .checked in
+    let fits-in : roomVerdict (length (sheetBytes (rowsIn table))) (length buffer) ≡ Accepted = rw (bytes, le-ltb (length buffer) (length s) room) in
+    let ok : exportVerdict table (length buffer) ≡ Accepted = rw well-formed fits-in in
+    let left : sheetAfter table buffer ≡ s ++ drop (length s) buffer = ap₂ (λ (v : Verdict) (l : List ℕ). leftOf v l buffer) ok bytes in
+    let told : exportedOf table (length buffer) ≡ record { verdict = Accepted; length = length s } = ap₂ (λ (v : Verdict) (l : List ℕ). toldOf v l) ok bytes in
+    (ap (λ (t : Table). sheetAfter t buffer) (m .table-of) ∙ left, ap (λ (t : Table). exportedOf t (length buffer)) (m .table-of) ∙ told)

@@ -1,0 +1,4 @@
+pub mod Printed
+pub mod Exported
+pub mod Fields
+pub mod Walked

@@ -1,0 +1,44 @@
+-- `sheets::reading::checked` meets its contract. Assumes nothing.
+use mathlib.Core.Path.{sym, _∙_}
+use borrow.Author.Needs.{needs}
+use Rattle.sheets.proofs.reading.checked.Statement.{statement}
+use Rattle.sheets.proofs.reading.checked.Tie as tie
+use Rattle.sheets.proofs.reading.checked.Reads as reads
+use Rattle.sheets.proofs.reading.checked.Lts as lts
+use Rattle.rules.proofs.check_table.Reads as check-table-reads
+use Rattle.rules.proofs.empty_table.Reads as empty-table-reads
+
+-- src/reading.rt:132:9
+check-table-requires : tie.Need-check-table-requires
+check-table-requires c κs = search needs
+
+-- src/reading.rt:134:30
+enum-told : tie.Need-enum-told
+enum-told c = search needs
+
+-- src/reading.rt:137:20
+enum-told-2 : tie.Need-enum-told-2
+enum-told-2 c = search needs
+
+-- src/reading.rt:137:20
+empty-table-requires : tie.Need-empty-table-requires
+empty-table-requires c κs = search needs
+
+-- src/reading.rt:129:1
+returns : tie.Need-returns
+returns c =
+    let e = c .enum-told .given .1 in
+    let f = sym (c .before .before .check-table .ensures) ∙ e in
+    rw e (simp f)
+
+-- src/reading.rt:129:1
+returns-2 : tie.Need-returns-2
+returns-2 c =
+    let e = c .before .enum-told2 .given .1 in
+    let f = sym (c .before .before .before .check-table .ensures) ∙ e in
+    rw (c .empty-table .ensures, e) (simp f)
+
+pub checked-spec : {M : Type 1} → statement M
+checked-spec =
+    tie.close
+    (tie.spec check-table-requires enum-told enum-told-2 empty-table-requires returns returns-2)

@@ -1,0 +1,103 @@
+-- `sheets::reading::read_lines` meets its contract: after each turn the lines before `at` are read. Assumes nothing.
+use Prim.Native.Nat.{_-_, _<_}
+use native.Mathlib.Omega.{arith}
+use mathlib.Core.Logic.{inl, inr}
+use mathlib.Core.Path.{_∙_}
+use lib.ListN.{length}
+use Rattle.sheets.proofs.Walked.{Walked, walked-none, all-read, bad-line, walked-kept, walked-full}
+use borrow.Author.Needs.{needs}
+use Rattle.sheets.proofs.reading.read_lines.Statement.{statement}
+use Rattle.sheets.proofs.reading.read_lines.Tie as tie
+use Rattle.sheets.proofs.reading.read_lines.Reads as reads
+use Rattle.sheets.proofs.reading.read_lines.Lts as lts
+use Rattle.rules.proofs.empty_table.Reads as empty-table-reads
+use Rattle.sheets.proofs.reading.checked.Reads as checked-reads
+use Rattle.sheets.proofs.reading.read_line.Reads as read-line-reads
+
+abbrev Inv-loop : tie.InvT-loop
+Inv-loop bytes rows₀ count₀ at₀ rows count at = Walked bytes rows count at
+
+abbrev μ-loop : tie.MeasureT-loop
+μ-loop bytes rows₀ count₀ at₀ rows count at = length bytes - at
+
+-- src/reading.rt:154:5
+loop-holds : tie.Need-loop-holds Inv-loop μ-loop
+loop-holds c = walked-none (c .before .args .bytes .now)
+
+-- src/reading.rt:155:13
+read-line-requires : tie.Need-read-line-requires Inv-loop μ-loop
+read-line-requires c κs = c .before .loop .inv .within
+
+-- src/reading.rt:156:24
+enum-known-line : tie.Need-enum-known-line Inv-loop μ-loop
+enum-known-line c = search needs
+
+-- src/reading.rt:158:43
+enum-told : tie.Need-enum-told Inv-loop μ-loop
+enum-told c = search needs
+
+-- src/reading.rt:159:24
+empty-table-requires : tie.Need-empty-table-requires Inv-loop μ-loop
+empty-table-requires c κs = search needs
+
+-- src/reading.rt:157:13
+returns : tie.Need-returns Inv-loop μ-loop
+returns c = rw (c .empty-table .ensures) (bad-line (c .before .before .before .before .before .loop .inv) (c .before .before .before .before .loop-test .taken) (rw (c .before .enum-told .given .1) at (c .before .before .before .read-line .ensures)))
+
+-- src/reading.rt:163:13
+mul-rows : tie.Need-mul-rows Inv-loop μ-loop
+mul-rows c = search needs
+
+-- src/reading.rt:163:13
+array-set-from-rows : tie.Need-array-set-from-rows Inv-loop μ-loop
+array-set-from-rows c = search needs
+
+-- src/reading.rt:165:9
+add-count : tie.Need-add-count Inv-loop μ-loop
+add-count c = let big : length (c .before .before .before .before .before .before .before .before .args .bytes .now) < 18446744073709551616 = search needs in omega (arith, big, c .before .before .before .before .before .before .loop .inv .fewer, c .before .before .before .before .before .loop-test .taken)
+
+-- src/reading.rt:154:5
+loop-less : tie.Need-loop-less Inv-loop μ-loop
+loop-less c =
+    let line = rw (c .before .before .line .given .1) at (c .before .before .before .before .read-line .ensures) in
+    omega (arith, line .1, c .before .before .before .before .before .loop-test .taken)
+
+-- src/reading.rt:154:5
+loop-again : tie.Need-loop-again Inv-loop μ-loop
+loop-again c =
+    let line = rw (c .before .before .line .given .1) at (c .before .before .before .before .read-line .ensures) in
+    let w = c .before .before .before .before .before .before .loop .inv in
+    let more = c .before .before .before .before .before .loop-test .taken in
+    let next = c .before .before .line .given .0 .1 .0 in
+    elim (c .if1 .came) [
+      | inl t ↦ walked-kept w more next (line .0) (line .1 .0) (line .1 .1) (t .0 .taken) (t .1)
+      | inr t ↦ walked-full w more next (line .0) (line .1 .0) (line .1 .1) (t .0 .left) (t .1)
+    ]
+
+-- src/reading.rt:168:5
+checked-requires : tie.Need-checked-requires Inv-loop μ-loop
+checked-requires c κs = search needs
+
+-- src/reading.rt:143:1
+returns-2 : tie.Need-returns-2 Inv-loop μ-loop
+returns-2 c = c .checked .ensures ∙ all-read (c .before .before .loop .inv) (c .before .loop-test .left)
+
+pub read-lines-spec : {M : Type 1} → statement M
+read-lines-spec =
+    tie.close
+    (tie.spec
+    Inv-loop
+    μ-loop
+    loop-holds
+    read-line-requires
+    enum-known-line
+    enum-told
+    empty-table-requires
+    returns
+    mul-rows
+    array-set-from-rows
+    add-count
+    loop-less
+    loop-again
+    checked-requires
+    returns-2)

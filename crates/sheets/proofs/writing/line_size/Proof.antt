@@ -1,0 +1,56 @@
+-- `sheets::writing::line_size` meets its contract. Assumes nothing.
+use native.Mathlib.Omega.{arith}
+use Rattle.sheets.proofs.Printed.{line-length}
+use borrow.Author.Needs.{needs}
+use Rattle.sheets.proofs.writing.line_size.Statement.{statement}
+use Rattle.sheets.proofs.writing.line_size.Tie as tie
+use Rattle.sheets.proofs.writing.line_size.Reads as reads
+use Rattle.sheets.proofs.writing.line_size.Lts as lts
+use Rattle.sheets.proofs.writing.width.Reads as width-reads
+
+-- src/writing.rt:30:20
+cast-width : tie.Need-cast-width
+cast-width c = search needs
+
+-- src/writing.rt:30:9
+width-requires : tie.Need-width-requires
+width-requires c κs = search needs
+
+-- src/writing.rt:31:9
+width-requires-2 : tie.Need-width-requires-2
+width-requires-2 c κs = search needs
+
+-- src/writing.rt:32:9
+width-requires-3 : tie.Need-width-requires-3
+width-requires-3 c κs = search needs
+
+-- src/writing.rt:33:5
+add-result : tie.Need-add-result
+add-result c = search needs
+
+-- src/writing.rt:33:5
+add-result-2 : tie.Need-add-result-2
+add-result-2 c = search needs
+
+-- src/writing.rt:33:5
+add-result-3 : tie.Need-add-result-3
+add-result-3 c = search needs
+
+-- src/writing.rt:27:1
+returns : tie.Need-returns
+returns c =
+    let e = line-length (c .before .before .before .before .args .row) in
+    (omega (arith, e, c .before .before .width .ensures, c .before .width2 .ensures, c .width3 .ensures), search needs)
+
+pub line-size-spec : {M : Type 1} → statement M
+line-size-spec =
+    tie.close
+    (tie.spec
+    cast-width
+    width-requires
+    width-requires-2
+    width-requires-3
+    add-result
+    add-result-2
+    add-result-3
+    returns)

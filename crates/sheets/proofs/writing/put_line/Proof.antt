@@ -1,0 +1,109 @@
+-- `sheets::writing::put_line` meets its contract: three fields and the last byte, one behind the other. Assumes nothing.
+use Prim.Native.Nat.{_+_, _<_}
+use mathlib.Core.Path.{refl, _∙_}
+use mathlib.Core.List.{[], _∷_, _++_}
+use native.Mathlib.Omega.{arith}
+use denote.Ref.{now}
+use lib.ListN.{length, length-set}
+use Rattle.rules.specs.Sheet.{fieldBytes}
+use Rattle.rules.proofs.Put.{put-then}
+use Rattle.sheets.proofs.Printed.{line-fields, kept}
+use borrow.Author.Needs.{needs}
+use Rattle.sheets.proofs.writing.put_line.Statement.{statement}
+use Rattle.sheets.proofs.writing.put_line.Tie as tie
+use Rattle.sheets.proofs.writing.put_line.Reads as reads
+use Rattle.sheets.proofs.writing.put_line.Lts as lts
+use Rattle.sheets.proofs.writing.put_field.Reads as put-field-reads
+
+-- src/writing.rt:80:40
+cast-put-field : tie.Need-cast-put-field
+cast-put-field c = search needs
+
+-- src/writing.rt:80:9
+put-field-requires : tie.Need-put-field-requires
+put-field-requires c κs = omega (arith, line-fields (c .before .before .before .args .row), c .before .before .before .pre)
+
+-- src/writing.rt:81:9
+put-field-requires-2 : tie.Need-put-field-requires-2
+put-field-requires-2 c κs =
+    let a = c .before .before .before .before .before .before .before .args in
+    let r = a .row in
+    let one = c .before .before .before .put-field .ensures in
+    let e₁ = kept (now (a .buffer)) (a .at) (fieldBytes (r .id) 44) (one .0) in
+    omega (arith, line-fields r, c .before .before .before .before .before .before .before .pre, one .1, e₁)
+
+-- src/writing.rt:82:9
+put-field-requires-3 : tie.Need-put-field-requires-3
+put-field-requires-3 c κs =
+    let a = c .before .before .before .before .before .before .before .before .before .before .before .args in
+    let r = a .row in
+    let one = c .before .before .before .before .before .before .before .put-field .ensures in
+    let e₁ = kept (now (a .buffer)) (a .at) (fieldBytes (r .id) 44) (one .0) in
+    let two = c .before .before .before .put-field2 .ensures in
+    let e₂ = kept _ _ (fieldBytes (r .cost) 44) (two .0) in
+    omega (arith, line-fields r, c .before .before .before .before .before .before .before .before .before .before .before .pre, one .1, e₁, two .1, e₂)
+
+-- src/writing.rt:83:5
+slice-write-buffer : tie.Need-slice-write-buffer
+slice-write-buffer c =
+    let a = c .before .before .before .before .before .before .before .before .before .before .before .before .before .before .args in
+    let r = a .row in
+    let one = c .before .before .before .before .before .before .before .before .before .before .put-field .ensures in
+    let e₁ = kept (now (a .buffer)) (a .at) (fieldBytes (r .id) 44) (one .0) in
+    let two = c .before .before .before .before .before .before .put-field2 .ensures in
+    let e₂ = kept _ _ (fieldBytes (r .cost) 44) (two .0) in
+    let three = c .before .before .put-field3 .ensures in
+    let e₃ = kept _ _ (fieldBytes (r .validity) 13) (three .0) in
+    omega (arith, line-fields r, c .before .before .before .before .before .before .before .before .before .before .before .before .before .before .pre, one .1, e₁, two .1, e₂, three .1, e₃)
+
+-- src/writing.rt:84:5
+add-result : tie.Need-add-result
+add-result c =
+    let a = c .before .before .before .before .before .before .before .before .before .before .before .before .before .before .args in
+    let r = a .row in
+    let one = c .before .before .before .before .before .before .before .before .before .before .put-field .ensures in
+    let e₁ = kept (now (a .buffer)) (a .at) (fieldBytes (r .id) 44) (one .0) in
+    let two = c .before .before .before .before .before .before .put-field2 .ensures in
+    let e₂ = kept _ _ (fieldBytes (r .cost) 44) (two .0) in
+    let three = c .before .before .put-field3 .ensures in
+    let e₃ = kept _ _ (fieldBytes (r .validity) 13) (three .0) in
+    let big : length (now (a .buffer)) < 18446744073709551616 = search needs in
+    omega (arith, line-fields r, c .before .before .before .before .before .before .before .before .before .before .before .before .before .before .pre, one .1, two .1, three .1, big)
+
+-- src/writing.rt:76:1
+same-length : tie.Need-same-length
+same-length c =
+    let a = c .before .before .before .before .before .before .before .before .before .before .before .before .before .before .args in
+    let r = a .row in
+    let one = c .before .before .before .before .before .before .before .before .before .before .put-field .ensures in
+    let e₁ = kept (now (a .buffer)) (a .at) (fieldBytes (r .id) 44) (one .0) in
+    let two = c .before .before .before .before .before .before .put-field2 .ensures in
+    let e₂ = kept _ _ (fieldBytes (r .cost) 44) (two .0) in
+    let three = c .before .before .put-field3 .ensures in
+    let e₃ = kept _ _ (fieldBytes (r .validity) 13) (three .0) in
+    simp length-set (e₃ ∙ (e₂ ∙ e₁))
+
+-- src/writing.rt:76:1
+returns : tie.Need-returns
+returns c =
+    let a = c .before .before .before .before .before .before .before .before .before .before .before .before .before .before .args in
+    let r = a .row in
+    let one = c .before .before .before .before .before .before .before .before .before .before .put-field .ensures in
+    let two = c .before .before .before .before .before .before .put-field2 .ensures in
+    let three = c .before .before .put-field3 .ensures in
+    let last = put-then _ _ (fieldBytes (r .validity) 13) (10 ∷ []) _ (three .1) (three .0) refl in
+    let behind = put-then _ _ (fieldBytes (r .cost) 44) (fieldBytes (r .validity) 13 ++ (10 ∷ [])) _ (two .1) (two .0) last in
+    (put-then (a .at) _ (fieldBytes (r .id) 44) (fieldBytes (r .cost) 44 ++ (fieldBytes (r .validity) 13 ++ (10 ∷ []))) (now (a .buffer)) (one .1) (one .0) behind, omega (arith, line-fields r, one .1, two .1, three .1))
+
+pub put-line-spec : {M : Type 1} → statement M
+put-line-spec =
+    tie.close
+    (tie.spec
+    cast-put-field
+    put-field-requires
+    put-field-requires-2
+    put-field-requires-3
+    slice-write-buffer
+    add-result
+    same-length
+    returns)

@@ -1,0 +1,182 @@
+// Importing a sheet: field by field, line by line, each from the place where the one before it ended.
+ghost use mathlib.Core.Path.{_≡_};
+ghost use Prim.Native.Nat.{_≤_};
+ghost use lib.ListN.{length, drop};
+ghost use Rattle.rules.specs.StoredTable.{answer, tableVerdict};
+ghost use Rattle.rules.specs.Sheet.{fieldEnd, readField, readLine, linesOf, linesAnswer, importOf};
+ghost use Rattle.sheets.specs.Found.{WentOn, FieldAt, LineAt};
+use rules::ObjectRow;
+use rules::ReadTable;
+use rules::Refusal;
+use rules::Table;
+use rules::Verdict;
+
+// How far a number was read: its value so far, and the place behind its digits.
+struct Digits {
+    value: u64,
+    next: usize,
+}
+
+// A field: its number and the place behind it; or none.
+enum Field {
+    Missing,
+    Found(u32, usize),
+}
+
+// A line: its row and the place behind it; or none.
+enum Line {
+    Bad,
+    Read(ObjectRow, usize),
+}
+
+// A number goes on with the digits from `at` on. Beyond the limit it is not followed, since it only grows.
+fn go_on(bytes: &[u8], at: usize, value: u64, limit: u32) -> Digits
+    requires { ⌜ at ≤ length (now bytes) ⌝ }
+    ensures { λ r. ⌜ WentOn (now (bytes .entry)) limit at value (r .next) (r .value) ⌝ }
+{
+    let size = bytes.len();
+    let most = limit as u64;
+    let mut v = value;
+    let mut next = at;
+    while next < size {
+        let c = bytes[next];
+        if c < 48 {
+            break;
+        }
+        if 57 < c {
+            break;
+        }
+        if most < v {
+            break;
+        }
+        v = v * 10 + (c - 48) as u64;
+        next += 1;
+    }
+    Digits { value: v, next }
+}
+
+// The end of a field: a number up to the limit, and the byte `stop` behind it.
+fn end_field(bytes: &[u8], at: usize, value: u64, limit: u32, stop: u8) -> Field
+    requires { ⌜ at ≤ length (now bytes) ⌝ }
+    ensures { λ r. ⌜ FieldAt (now (bytes .entry)) at (fieldEnd limit stop value (drop at (now (bytes .entry)))) r ⌝ }
+{
+    if (limit as u64) < value {
+        return Field::Missing;
+    }
+    if bytes.len() <= at {
+        return Field::Missing;
+    }
+    if bytes[at] != stop {
+        return Field::Missing;
+    }
+    Field::Found(value as u32, at + 1)
+}
+
+// The field at `at`: a number without leading zero.
+fn read_field(bytes: &[u8], at: usize, limit: u32, stop: u8) -> Field
+    requires { ⌜ at ≤ length (now bytes) ⌝ }
+    ensures { λ r. ⌜ FieldAt (now (bytes .entry)) at (readField limit stop (drop at (now (bytes .entry)))) r ⌝ }
+{
+    if bytes.len() <= at {
+        return Field::Missing;
+    }
+    let c = bytes[at];
+    if c == 48 {
+        return end_field(bytes, at + 1, 0, limit, stop);
+    }
+    if c < 48 {
+        return Field::Missing;
+    }
+    if 57 < c {
+        return Field::Missing;
+    }
+    let digits = go_on(bytes, at + 1, (c - 48) as u64, limit);
+    end_field(bytes, digits.next, digits.value, limit, stop)
+}
+
+// The line at `at`.
+fn read_line(bytes: &[u8], at: usize) -> Line
+    requires { ⌜ at ≤ length (now bytes) ⌝ }
+    ensures { λ r. ⌜ LineAt (now (bytes .entry)) at (readLine (drop at (now (bytes .entry)))) r ⌝ }
+{
+    let first = read_field(bytes, at, 65535, 44);
+    let Field::Found(id, second) = first else {
+        return Line::Bad;
+    };
+    let middle = read_field(bytes, second, 4294967295, 44);
+    let Field::Found(cost, third) = middle else {
+        return Line::Bad;
+    };
+    let last = read_field(bytes, third, 4294967295, 13);
+    let Field::Found(validity, end) = last else {
+        return Line::Bad;
+    };
+    if bytes.len() <= end {
+        return Line::Bad;
+    }
+    if bytes[end] != 10 {
+        return Line::Bad;
+    }
+    let row = ObjectRow {
+        id: id as u16,
+        cost,
+        validity,
+    };
+    Line::Read(row, end + 1)
+}
+
+// The answer to the rows of a sheet: checks 4, 7, 8, 9.
+fn checked(table: Table) -> ReadTable
+    ensures { λ r. ⌜ r ≡ answer (tableVerdict table) table ⌝ }
+{
+    let verdict = rules::check_table(table);
+    match verdict {
+        Verdict::Accepted => ReadTable { verdict, table },
+        Verdict::Refused(_, _) => ReadTable {
+            verdict,
+            table: rules::empty_table(),
+        },
+    }
+}
+
+// The answer to the lines of a sheet: the first that is not of the form, or the answer to all rows. Rows beyond 64 are only counted.
+fn read_lines(bytes: &[u8]) -> ReadTable
+    ensures { λ r. ⌜ r ≡ linesAnswer (linesOf (now (bytes .entry))) ⌝ }
+{
+    let none = ObjectRow {
+        id: 0,
+        cost: 0,
+        validity: 0,
+    };
+    let mut rows = [none; 64];
+    let mut count = 0;
+    let mut at = 0;
+    while at < bytes.len() {
+        let line = read_line(bytes, at);
+        let Line::Read(row, next) = line else {
+            return ReadTable {
+                verdict: Verdict::Refused(Refusal::LineForm, count),
+                table: rules::empty_table(),
+            };
+        };
+        if count < 64 {
+            rows[count] = row;
+        }
+        count += 1;
+        at = next;
+    }
+    checked(Table { count, rows })
+}
+
+// A sheet to a table, or the refusal with an empty table.
+pub fn import(bytes: &[u8]) -> ReadTable
+    ensures { λ r. ⌜ r ≡ importOf (now (bytes .entry)) ⌝ }
+{
+    if 4096 < bytes.len() {
+        return ReadTable {
+            verdict: Verdict::Refused(Refusal::TooLong, 0),
+            table: rules::empty_table(),
+        };
+    }
+    read_lines(bytes)
+}

@@ -28,6 +28,11 @@ impl Random {
         (self.next() % u64::from(bound)) as u32
     }
 
+    /// A number of the span.
+    fn within(&mut self, span: &RangeInclusive<u32>) -> u32 {
+        span.start() + self.below(span.end() - span.start() + 1)
+    }
+
     /// From 0 up to, and without, 1.
     fn part(&mut self) -> f64 {
         (self.next() >> 11) as f64 / (1u64 << 53) as f64
@@ -40,6 +45,10 @@ pub const SHORT: RangeInclusive<u32> = 40..=999;
 pub const LONG: RangeInclusive<u32> = 1_000..=1_000_000;
 /// Validities in the longest stretch only.
 pub const LONGEST: RangeInclusive<u32> = 500_000..=1_000_000;
+
+/// The costs and validities of document 000's experiment.
+pub const COSTS_000: RangeInclusive<u32> = 5..=15;
+pub const VALIDITIES_000: RangeInclusive<u32> = 4_000..=8_000;
 
 /// A table with a load of about an eighth.
 pub fn light(count: usize, span: RangeInclusive<u32>, random: &mut Random) -> Table {
@@ -80,6 +89,16 @@ pub fn refused(full: &Table) -> Table {
     table
 }
 
+/// Costs and validities each spread evenly over a span, as in the experiment of document 000.
+pub fn even(count: usize, costs: RangeInclusive<u32>, validities: RangeInclusive<u32>, random: &mut Random) -> Table {
+    let mut table = with_ids(count, random);
+    for row in &mut table.rows[..count] {
+        row.cost = random.within(&costs);
+        row.validity = random.within(&validities);
+    }
+    table
+}
+
 /// Jobs of one to three slots, and validities as short as the planner accepts.
 pub fn short_jobs(count: usize, random: &mut Random) -> Table {
     let weighted = with_validities(count, 20..=100, random);
@@ -101,6 +120,17 @@ pub fn short_jobs(count: usize, random: &mut Random) -> Table {
 /// One object, anywhere, has the longest validity alone.
 fn with_validities(count: usize, span: RangeInclusive<u32>, random: &mut Random) -> Table {
     let (least, most) = (f64::from(*span.start()), f64::from(*span.end()));
+    let mut table = with_ids(count, random);
+    for row in &mut table.rows[..count] {
+        row.validity = (least * (most / least).powf(random.part())) as u32;
+        row.validity = row.validity.min(span.end() - 1);
+    }
+    table.rows[random.below(count as u32) as usize].validity = *span.end();
+    table
+}
+
+/// Rows with different ids in no order, and nothing else yet.
+fn with_ids(count: usize, random: &mut Random) -> Table {
     let mut table = Table {
         count,
         rows: [ObjectRow::default(); ROWS],
@@ -108,10 +138,7 @@ fn with_validities(count: usize, span: RangeInclusive<u32>, random: &mut Random)
     let first_id = random.below(65_536) as u16;
     for (place, row) in table.rows[..count].iter_mut().enumerate() {
         row.id = first_id.wrapping_add(40_503u16.wrapping_mul(place as u16));
-        row.validity = (least * (most / least).powf(random.part())) as u32;
-        row.validity = row.validity.min(span.end() - 1);
     }
-    table.rows[random.below(count as u32) as usize].validity = *span.end();
     table
 }
 

@@ -1,9 +1,11 @@
-//! The benchmark: the planner, the checked slot and the advance of libchannelfox.a against the same work in Rust.
+//! The benchmark: the planner, the checked slot and the advance of libchannelfox.a against the same work in Rust, and
+//! how many rounds the search for a deadline takes.
 
 mod ffi;
 mod inputs;
 mod measure;
 mod plan;
+mod rounds;
 mod run;
 
 use std::hint::black_box;
@@ -26,20 +28,39 @@ const ADVANCE: usize = 10_000;
 /// Checked slots in place of one call, from the start of a run.
 const IN_PLACE: usize = 10_000;
 
-/// The parts, each with inputs of its own: the name, and what is done for a number of objects.
-const PARTS: [(&str, fn(usize, &mut Random)); 4] = [
+/// What a part that compares does for a number of objects.
+type Compares = fn(usize, &mut Random);
+
+/// The parts that compare, each with its name and with inputs of its own.
+const PARTS: [(&str, Compares); 4] = [
     ("plan", planner),
     ("slot", slots),
     ("in place", in_place),
     ("advance", advances),
 ];
 
+/// The parts that print a table of their own.
+const OWN_TABLES: [(&str, fn()); 1] = [("rounds", rounds::rounds)];
+
 /// All parts, or those whose names are given.
 fn main() {
     let asked: Vec<String> = std::env::args().skip(1).collect();
+    let wanted = |name: &str| asked.is_empty() || asked.iter().any(|one| one == name);
+    if PARTS.iter().any(|(name, _)| wanted(name)) {
+        compared(wanted);
+    }
+    for (name, part) in OWN_TABLES {
+        if wanted(name) {
+            part();
+        }
+    }
+}
+
+/// The wanted parts that compare the library with Rust, as one table.
+fn compared(wanted: impl Fn(&str) -> bool) {
     print_head();
     for (name, part) in PARTS {
-        if !asked.is_empty() && !asked.iter().any(|one| one == name) {
+        if !wanted(name) {
             continue;
         }
         let mut random = Random(1);
@@ -55,7 +76,9 @@ fn print_notes() {
     println!("plan:    the C entry takes the table and hands back the plan by value; Rust is lent the table.");
     println!("slot:    on every call the C entry converts the C form of the run to the library's own and back,");
     println!("         64 rows each way, whatever the count. Rust checks and changes its own form in place.");
-    println!("in place: running::slot_in_place in a loop within libtiming.a, {IN_PLACE} slots from the start of a run; each");
+    println!(
+        "in place: running::slot_in_place in a loop within libtiming.a, {IN_PLACE} slots from the start of a run; each"
+    );
     println!("         slot is checked on both sides. Rust is the faster of one pass and three passes over the rows.");
     println!(
         "advance: {ADVANCE} slots a call; both sides check once. Rust does plain slots, each over all rows, and is"
@@ -210,7 +233,9 @@ fn time_in_place(name: &str, table: &Table, percent_stolen: u32, random: &mut Ra
 fn started(table: &Table, clock: u32, firsts: &[u32]) -> Run {
     let plan = plan(table).expect("an accepted table");
     let mut firsts = firsts.iter();
-    start(&plan, clock, |_| *firsts.next().expect("a first release for each object"))
+    start(&plan, clock, |_| {
+        *firsts.next().expect("a first release for each object")
+    })
 }
 
 /// Stops the program unless the same is seen of each row after all slots.

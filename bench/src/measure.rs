@@ -3,7 +3,7 @@
 use std::time::Instant;
 
 /// Rounds of each pair; in a round each side takes about ROUND seconds.
-const ROUNDS: usize = 9;
+pub const ROUNDS: usize = 9;
 const ROUND: f64 = 0.030;
 
 /// Nanoseconds of a call or slot on each side (medians), and the smallest and largest ratio of a round.
@@ -32,6 +32,26 @@ pub fn compare(units: usize, rust: &mut dyn FnMut(), library: &mut dyn FnMut()) 
         library: median(of_library) * per_unit,
         least: ratios[0],
         most: ratios[ROUNDS - 1],
+    }
+}
+
+/// Nanoseconds of a call of one side alone: the median of the rounds, and the least and the most.
+pub struct Alone {
+    pub median: f64,
+    pub least: f64,
+    pub most: f64,
+}
+
+/// Times one side alone. The closure does `units` calls.
+pub fn time(units: usize, work: &mut dyn FnMut()) -> Alone {
+    let times = times_in_round(work);
+    let per_unit = 1e9 / (units as f64 * f64::from(times));
+    let mut taken: Vec<f64> = (0..ROUNDS).map(|_| seconds(times, work) * per_unit).collect();
+    taken.sort_by(f64::total_cmp);
+    Alone {
+        median: taken[ROUNDS / 2],
+        least: taken[0],
+        most: taken[ROUNDS - 1],
     }
 }
 

@@ -13,6 +13,7 @@ use lib.ListN.{length, take, getD}
 use lib.Seq.{take-suc}
 use borrow.Author.Tests.{eq-eqb, ne-eqb, eqb-true, eqb-false}
 use Rattle.rules.specs.declared.PlanRow.{PlanRow}
+use Rattle.rules.proofs.Lists.{Every}
 use Rattle.rules.specs.Deadlines.{ceiling, brings, windowOf, needOf, firstFixed, deadlineOf, noPlanRow}
 
 div-grows : (s t p : ℕ) → s ≤ t → s / p ≤ t / p
@@ -35,6 +36,23 @@ window-more (x ∷ rs) r t =
 
 pub need-next : (xs : List PlanRow) (j cost t : ℕ) → j < length xs → needOf (take (j + 1) xs) cost t ≡ needOf (take j xs) cost t + brings t (getD xs j noPlanRow)
 need-next xs j cost t h = rw (add-one, take-suc xs j noPlanRow h) (omega (arith, window-more (take j xs) (getD xs j noPlanRow) t))
+
+-- the costs of all objects, each once
+abbrev pub costsOf : List PlanRow → ℕ
+costsOf [] = 0
+costsOf (r ∷ rs) = r .cost + costsOf rs
+
+pub costs-more : (rs : List PlanRow) (r : PlanRow) → costsOf (rs ++ (r ∷ [])) ≡ costsOf rs + r .cost
+costs-more [] r = omega arith
+costs-more (x ∷ rs) r = omega (arith, costs-more rs r)
+
+-- within one slot or more each object whose period is not 0 brings its cost once at least
+pub costs-brought : (rs : List PlanRow) (t : ℕ) → Every (λ r. 1 ≤ r .period) rs → 1 ≤ t → costsOf rs ≤ windowOf rs t
+costs-brought [] t ps h = omega arith
+costs-brought (r ∷ rs) t ps h =
+    let once : 1 ≤ ceiling t (r .period) = le-div-iff-mul-le {k = r .period} {x = 1} {y = t + (r .period - 1)} (ps .0) .1 (omega (arith, ps .0)) in
+    let b : 1 * r .cost ≤ brings t r = mul-le-mul-right (r .cost) once in
+    omega (arith, costs-brought rs t (ps .1) h)
 
 -- a search that passes over numbers which f moves, and stops at one that it leaves
 module _ (f : ℕ → ℕ) where
@@ -99,9 +117,12 @@ pub record Passed (xs : List PlanRow) (cost t : ℕ) : Type 0 where
   pub moved : (s : ℕ) → 1 ≤ s → s < t → needOf xs cost s ≡ s → ⊥
 
 module _ {xs : List PlanRow} {cost : ℕ} where
-  -- it may begin at the object's own cost
-  pub passed-cost : Passed xs cost cost
-  passed-cost = record { under = omega arith; moved = λ s p q e. omega arith }
+  -- it may begin at the sum of the object's own cost and all costs ahead of it
+  pub passed-sum : Every (λ r. 1 ≤ r .period) xs → 1 ≤ cost → Passed xs cost (costsOf xs + cost)
+  passed-sum ps h = record {
+    under = omega (arith, costs-brought xs (costsOf xs + cost) ps (omega arith));
+    moved = λ s p q e. omega (arith, costs-brought xs s ps p);
+  }
 
   -- and go on to what is needed
   pub passed-next : {t : ℕ} → Passed xs cost t → Passed xs cost (needOf xs cost t)

@@ -154,6 +154,11 @@ channelfox_part channelfox_choose(const uint8_t *site, size_t site_length, const
  * not read; rows of the plan beyond its count are zero. */
 channelfox_plan_answer channelfox_plan_table(channelfox_table table);
 
+/* The classic plan, Half-Half: deadline and period both half the validity, rounded down, in the same order. Refusals as above; 10
+ * where the smallest balancing number of slots, worked out with those periods, is above an object's half. A table that fits so is
+ * never refused by channelfox_plan_table, and no deadline there is later. */
+channelfox_plan_answer channelfox_plan_classic(channelfox_table table);
+
 /* The table with its rows in priority order, which the places told with 10 and 12 count; rows beyond the count are zero. A
  * table that gets 4, 7, 8 or 9 gives count 0 and every field zero. */
 channelfox_table channelfox_ranked(channelfox_table table);

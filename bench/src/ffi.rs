@@ -1,4 +1,5 @@
-//! The part of the C interface, channelfox.h, that is timed, and the entry of libtiming.a. The only file with unsafe code.
+//! The part of the C interface, channelfox.h, that is used here, and the entry of libtiming.a.
+//! The only file with unsafe code.
 
 /// The rows of a table, a plan and a run: CHANNELFOX_ROWS.
 pub const ROWS: usize = 64;
@@ -105,6 +106,7 @@ impl Default for Plan {
 #[link(name = "channelfox", kind = "static")]
 extern "C" {
     fn channelfox_plan_table(table: Table) -> PlanAnswer;
+    fn channelfox_plan_classic(table: Table) -> PlanAnswer;
     fn channelfox_slot(run: *mut Run, stolen: bool) -> Verdict;
     fn channelfox_advance(run: Run, stolen: *const u8, length: usize) -> RunAnswer;
 }
@@ -127,6 +129,12 @@ extern "C" {
 pub fn plan_table(table: &Table) -> PlanAnswer {
     // Safety: all of it goes by value.
     unsafe { channelfox_plan_table(*table) }
+}
+
+/// Plans a table the classic way, Half-Half.
+pub fn plan_classic(table: &Table) -> PlanAnswer {
+    // Safety: all of it goes by value.
+    unsafe { channelfox_plan_classic(*table) }
 }
 
 /// One slot, in place.

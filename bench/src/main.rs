@@ -1,7 +1,8 @@
-//! The benchmark: the planner, the checked slot and the advance of libchannelfox.a against the same work in Rust, and
-//! how many rounds the search for a deadline takes.
+//! The benchmark: the planner, the checked slot and the advance of libchannelfox.a against the same work in Rust, how
+//! many rounds the search for a deadline takes, and the loads of More-Less and Half-Half.
 
 mod ffi;
+mod figure6;
 mod inputs;
 mod measure;
 mod plan;
@@ -40,7 +41,7 @@ const PARTS: [(&str, Compares); 4] = [
 ];
 
 /// The parts that print a table of their own.
-const OWN_TABLES: [(&str, fn()); 1] = [("rounds", rounds::rounds)];
+const OWN_TABLES: [(&str, fn()); 2] = [("rounds", rounds::rounds), ("figure 6", figure6::figure6)];
 
 /// All parts, or those whose names are given.
 fn main() {

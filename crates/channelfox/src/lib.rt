@@ -8,7 +8,7 @@ ghost use Rattle.rules.specs.StoredTable.{readOf, doorOf, chosenPart};
 ghost use Rattle.rules.specs.Writing.{writtenOf, bufferAfter};
 ghost use Rattle.rules.specs.Sheet.{importOf, exportedOf, sheetAfter};
 ghost use Rattle.rules.specs.Order.{rankedOf};
-ghost use Rattle.rules.specs.Deadlines.{planOf};
+ghost use Rattle.rules.specs.Deadlines.{planOf, classicOf};
 ghost use Rattle.rules.specs.Run.{startOf};
 ghost use Rattle.channelfox.specs.Forms.{readForm, writtenForm, planForm, startedForm, steppedForm, plannedStored, noForm, slotForm, advanceForm, readingForm, readValueForm, partForm};
 use forms::all_forms;
@@ -221,6 +221,13 @@ pub extern "C" fn channelfox_plan_table(table: Table) -> CPlanAnswer
     ensures { λ r. ⌜ r ≡ planForm (planOf table) ⌝ }
 {
     plan_form(planning::plan_table(table))
+}
+
+#[no_mangle]
+pub extern "C" fn channelfox_plan_classic(table: Table) -> CPlanAnswer
+    ensures { λ r. ⌜ r ≡ planForm (classicOf table) ⌝ }
+{
+    plan_form(planning::plan_classic(table))
 }
 
 #[no_mangle]

@@ -1,7 +1,15 @@
-// What the programs print with: text, numbers and refusals, to standard output; and refusals to standard error, for programs whose output
-// is a file.
+// What the programs print with: text, numbers and refusals, to standard output, and lines with columns; and refusals to standard error,
+// for programs whose output is a file.
+mod line;
+
 use libc::STDERR_FILENO;
 use libc::STDOUT_FILENO;
+pub use line::end;
+pub use line::put;
+pub use line::put_blanks;
+pub use line::put_number;
+pub use line::put_padded;
+pub use line::put_text;
 use rules::Refusal;
 
 // The bytes as they are.

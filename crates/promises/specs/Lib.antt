@@ -3,6 +3,7 @@ pub mod OnlyOrder
 pub mod AnyRecordOrder
 pub mod RoundTrip
 pub mod Sheets
+pub mod Classic
 pub mod SamePlan
 pub mod Tests
 pub mod History

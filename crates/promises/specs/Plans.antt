@@ -21,7 +21,7 @@ use Rattle.rules.specs.Order.{isAhead, rowAt, rowsAt, insertPlace, placesOf, in
 use Rattle.rules.specs.Deadlines.{needOf, planRow, noPlanRow, onAccepted, planFrom, planOf, plannedRows}
 use Rattle.rules.specs.RunState.{notIn, distinct}
 use Rattle.rules.proofs.Lists.{Every, Pairwise, every-more, every-at, pairwise-at}
-use Rattle.rules.proofs.Places.{insert-every, places-below, places-length}
+use Rattle.rules.proofs.Places.{insert-every, places-below, in-order-length}
 use Rattle.rules.proofs.Checks.{Ranged, all-ranged, both-accept, count-said, refused-not}
 use Rattle.promises.specs.AnyRecordOrder.{checks-apart}
 use Rattle.promises.specs.Exactly.{IsDeadline, PlannedAs}
@@ -63,10 +63,6 @@ pub places-apart : (rows : List ObjectRow) (n : ℕ) → Pairwise (λ x y. x ≢
 places-apart rows zero = tt
 places-apart rows (suc n) = insert-apart rows n (placesOf rows n) (every-more (λ x h e. omega arith) (placesOf rows n) (places-below rows n)) (places-apart rows n)
 
-rows-length : (rows : List ObjectRow) (ps : List ℕ) → length (rowsAt rows ps) ≡ length ps
-rows-length rows [] = refl
-rows-length rows (p ∷ ps) = ap suc (rows-length rows ps)
-
 rows-every : (P : ObjectRow → Type 0) (rows : List ObjectRow) (n : ℕ) → ((p : ℕ) → p < n → P (rowAt rows p)) → (ps : List ℕ) → Every (λ p. p < n) ps → Every P (rowsAt rows ps)
 rows-every P rows n f [] a = tt
 rows-every P rows n f (p ∷ ps) a = (f p (a .0), rows-every P rows n f ps (a .1))
@@ -101,7 +97,7 @@ module _ (rows : List ObjectRow) (n : ℕ) (ok : checksFrom [] 0 [] (take n rows
     | no l ↦ (let e : rowAt rows p ≡ noRow = List·getD-eq-default rows noRow (omega arith) in let z : rowAt rows p .validity ≡ 0 = ap (λ (r : ObjectRow). r .validity) e in absurd (omega arith))
   ]
 
-  ordered-ranged : Every (λ r. 2 ≤ r .validity → Ranged r) (inOrder rows n)
+  pub ordered-ranged : Every (λ r. 2 ≤ r .validity → Ranged r) (inOrder rows n)
   ordered-ranged = rows-every (λ r. 2 ≤ r .validity → Ranged r) rows n (λ p h v. ranged-at p h (there p v)) (placesOf rows n) (places-below rows n)
 
   ordered-apart : Pairwise (λ x y. 2 ≤ x .validity → 2 ≤ y .validity → x .id ≢ y .id) (inOrder rows n)
@@ -157,7 +153,7 @@ plan-rows table e =
     let c = both-accept (countVerdict n) (rowsVerdict (rowsIn table)) (formed (tableVerdict table) (planFrom [] (inOrder rows n)) e) in
     let count = count-said n (c .0) in
     let b = planned-as table e in
-    let l : length (plannedRows (planOf table .plan)) ≡ n = as-length b ∙ (rows-length rows (placesOf rows n) ∙ places-length rows n) in
+    let l : length (plannedRows (planOf table .plan)) ≡ n = as-length b ∙ in-order-length rows n in
     record {
       count-pos = omega arith;
       count-le = omega arith;

@@ -1,12 +1,12 @@
 // The chart: a column for each of the last 100 slots, and for each object a line for its job and a line for its value.
 ghost use Prim.Native.Nat.{_≤_};
-use super::line::end;
-use super::line::put;
-use super::line::put_number;
-use super::line::put_padded;
-use super::line::put_text;
 use super::tallies::job_sign;
 use super::tallies::value_sign;
+use printing::end;
+use printing::put;
+use printing::put_number;
+use printing::put_padded;
+use printing::put_text;
 use rules::Run;
 
 // The first slot that is drawn.

@@ -1,6 +1,5 @@
 // The replay program: runs a stored table slot by slot and shows what happened.
 mod chart;
-mod line;
 mod refusals;
 mod story;
 mod summary;

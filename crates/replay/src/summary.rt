@@ -1,11 +1,11 @@
 // The lines above and below the chart: what was run, and what became of each object.
-use super::line::end;
-use super::line::put;
-use super::line::put_blanks;
-use super::line::put_padded;
 use super::tallies;
 use super::tallies::Tallies;
 use super::tallies::Tally;
+use printing::end;
+use printing::put;
+use printing::put_blanks;
+use printing::put_padded;
 use rules::PlanRow;
 use rules::Run;
 use rules::RunRow;

@@ -186,6 +186,7 @@ extern "C" {
     fn channelfox_rows(rows: *const ObjectRow, length: usize) -> ReadAnswer;
     fn channelfox_choose(site: *const u8, site_length: usize, factory: *const u8, factory_length: usize) -> Part;
     fn channelfox_plan_table(table: Table) -> PlanAnswer;
+    fn channelfox_plan_classic(table: Table) -> PlanAnswer;
     fn channelfox_ranked(table: Table) -> Table;
     fn channelfox_plan_stored(bytes: *const u8, length: usize) -> PlanAnswer;
     fn channelfox_start(table: Table, clock: u32, firsts: *const u32, length: usize) -> RunAnswer;
@@ -279,6 +280,12 @@ pub fn choose(site: &[u8], factory: &[u8]) -> Result<Part, LentChanged> {
 pub fn plan_table(table: &Table) -> PlanAnswer {
     // Safety: all of it goes by value.
     unsafe { channelfox_plan_table(*table) }
+}
+
+/// Plans a table the classic way.
+pub fn plan_classic(table: &Table) -> PlanAnswer {
+    // Safety: all of it goes by value.
+    unsafe { channelfox_plan_classic(*table) }
 }
 
 /// The rows in priority order.

@@ -6,6 +6,7 @@
 
 #![forbid(unsafe_code)]
 
+pub mod classic;
 pub mod numbers;
 pub mod planning;
 pub mod running;

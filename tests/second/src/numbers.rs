@@ -102,5 +102,63 @@ pub const PLANS: &[Numbers] = &[
     },
 ];
 
+/// Classic plans. 000 gives those of its Tables 4 and 5, request 5 the place of the former; the others are worked out by
+/// hand from the request.
+pub const CLASSIC_PLANS: &[Numbers] = &[
+    Numbers {
+        from: "000, Table 4, classic",
+        objects: &[(10, 1, 4), (20, 1, 5), (30, 1, 8), (40, 1, 20)],
+        answers: Err(2),
+    },
+    Numbers {
+        from: "000, Table 5, classic",
+        objects: &[(1, 1, 8), (2, 1, 10), (3, 1, 12)],
+        answers: Ok(&[(4, 4), (5, 5), (6, 6)]),
+    },
+    Numbers {
+        // 1.5 rounded down: the first object takes every slot.
+        from: "000, Table 3, classic",
+        objects: &[(1, 1, 3), (2, 2, 20)],
+        answers: Err(1),
+    },
+    Numbers {
+        // The second object's t is 4, its half.
+        from: "(1,4), (2,8), classic",
+        objects: &[(1, 1, 4), (2, 2, 8)],
+        answers: Ok(&[(2, 2), (4, 4)]),
+    },
+    Numbers {
+        from: "(1,4), (3,8), classic",
+        objects: &[(1, 1, 4), (2, 3, 8)],
+        answers: Err(1),
+    },
+    Numbers {
+        // The second object's t is 6, and its half is 5.
+        from: "(1,6), (4,11), classic",
+        objects: &[(1, 1, 6), (2, 4, 11)],
+        answers: Err(1),
+    },
+    Numbers {
+        from: "(1,2), classic",
+        objects: &[(1, 1, 2)],
+        answers: Ok(&[(1, 1)]),
+    },
+    Numbers {
+        from: "(500000,1000000), classic",
+        objects: &[(1, 500_000, 1_000_000)],
+        answers: Ok(&[(500_000, 500_000)]),
+    },
+    Numbers {
+        from: "(500001,1000000), classic",
+        objects: &[(1, 500_001, 1_000_000)],
+        answers: Err(0),
+    },
+    Numbers {
+        from: "id 1 (1,11), id 2 (3,11), classic",
+        objects: &[(2, 3, 11), (1, 1, 11)],
+        answers: Ok(&[(5, 5), (5, 5)]),
+    },
+];
+
 /// 002's set, of which the paper also tells a run.
 pub const FIGURE_2: &[(u16, u32, u32)] = &[(1, 2, 8), (2, 2, 10), (3, 2, 12)];

@@ -1,6 +1,6 @@
 //! Part 6: the paper's own numbers, held against the library. The paper's modules have them in their own tests.
 
-use paper::numbers::{FIGURE_2, PLANS};
+use paper::numbers::{CLASSIC_PLANS, FIGURE_2, PLANS};
 use paper::tables::{refused, ObjectRow};
 
 use crate::tally::{agree, hex, Tally};
@@ -9,6 +9,7 @@ use crate::{cform, ffi};
 pub fn numbers(_seed: u64) -> Result<(), String> {
     let mut tally = Tally::new();
     plans(&mut tally)?;
+    classic_plans(&mut tally)?;
     stored_bytes(&mut tally)?;
     written_bytes(&mut tally)?;
     figure_2(&mut tally)?;
@@ -29,6 +30,21 @@ fn plans(tally: &mut Tally) -> Result<(), String> {
             agree("channelfox_ranked", &ranked, &ffi::ranked(&table), told)?;
         }
         tally.add("plans of the paper", 1);
+    }
+    Ok(())
+}
+
+fn classic_plans(tally: &mut Tally) -> Result<(), String> {
+    for numbers in CLASSIC_PLANS {
+        let rows = numbers.rows();
+        let expected = cform::plan_answer(&numbers.plan());
+        for rows in [rows.clone(), rows.into_iter().rev().collect()] {
+            let library = ffi::plan_classic(&cform::table(&rows));
+            agree("channelfox_plan_classic", &expected, &library, || {
+                numbers.from.to_string()
+            })?;
+        }
+        tally.add("classic plans of the paper", 1);
     }
     Ok(())
 }

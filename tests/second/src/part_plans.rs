@@ -1,6 +1,7 @@
-//! Part 3: row tables through the planner, and their rows in priority order.
+//! Part 3: row tables through the planner and the classic one, and their rows in priority order.
 
-use paper::planning::{plan, ranked};
+use paper::classic::plan_classic;
+use paper::planning::{plan, ranked, PlanRow};
 use paper::tables::{ObjectRow, Refusal, MOST_OBJECTS};
 
 use crate::generate::{bad_count, garbage_row, object_count, object_rows, overload_rows, spoil_rows, Times};
@@ -31,6 +32,7 @@ pub fn row_tables(seed: u64) -> Result<(), String> {
     tally.expect("with ties in validity and cost", 10_000);
     tally.expect("planned with 64 objects", 1000);
     tally.expect("planned with rows beyond the count that are not zero", 1000);
+    expect_classic(&mut tally);
     for_cases(seed, 3, TABLES, |random| row_table(random, &mut tally))?;
     tally.close()
 }
@@ -71,6 +73,7 @@ fn row_table(random: &mut Random, tally: &mut Tally) -> Result<(), String> {
         format!("{table:?}")
     })?;
     in_order(told_count, &rows, &table, tally)?;
+    beside_classic(&answer, told_count, &rows, &table, tally)?;
 
     tally.add("row tables", 1);
     match &answer {
@@ -112,6 +115,83 @@ fn in_order(count: usize, rows: &[ObjectRow], table: &ffi::Table, tally: &mut Ta
             tally.add("ranked, not in the order of the rows", u64::from(moved));
         }
         Err(_) => tally.add("not ranked", 1),
+    }
+    Ok(())
+}
+
+const BOTH: &str = "planned by both ways";
+const ONLY_OURS: &str = "planned, and refused with 10 by the classic way";
+const NEITHER: &str = "refused with 10 by both ways";
+const BELOW: &str = "deadlines below the classic ones";
+const EQUAL: &str = "deadlines equal to the classic ones";
+
+fn expect_classic(tally: &mut Tally) {
+    for class in PLACES {
+        tally.expect(format!("classic refusal 10 at {class}"), 50);
+    }
+    for number in [4, 7, 8, 9] {
+        tally.expect(format!("classic refusal {number}"), 1000);
+    }
+    for kind in [BOTH, ONLY_OURS, NEITHER, BELOW, EQUAL] {
+        tally.expect(kind, 1000);
+    }
+}
+
+/// The classic plan of the table, and what request 5 promises of the two plans.
+fn beside_classic(
+    ours: &Result<Vec<PlanRow>, Refusal>,
+    count: usize,
+    rows: &[ObjectRow],
+    table: &ffi::Table,
+    tally: &mut Tally,
+) -> Result<(), String> {
+    let classic = plan_classic(count, rows);
+    agree(
+        "channelfox_plan_classic",
+        &cform::plan_answer(&classic),
+        &ffi::plan_classic(table),
+        || format!("{table:?}"),
+    )?;
+    match (ours, &classic) {
+        (Ok(ours), Ok(classic)) => {
+            tally.add(BOTH, 1);
+            none_above(ours, classic, tally).map_err(|told| format!("{told}\n  input: {table:?}"))
+        }
+        (Ok(_), Err(Refusal { number: 10, place })) => {
+            tally.add(ONLY_OURS, 1);
+            tally.add(&format!("classic refusal 10 at {}", class(*place, count)), 1);
+            Ok(())
+        }
+        // Our plan gets as far as the classic one or farther.
+        (
+            Err(Refusal {
+                number: 10,
+                place: ours,
+            }),
+            Err(Refusal { number: 10, place }),
+        ) if place <= ours => {
+            tally.add(NEITHER, 1);
+            tally.add(&format!("classic refusal 10 at {}", class(*place, count)), 1);
+            Ok(())
+        }
+        (Err(ours), Err(classic)) if ours == classic => {
+            tally.add(&format!("classic refusal {}", classic.number), 1);
+            Ok(())
+        }
+        _ => Err(format!(
+            "the classic way plans farther than ours\n  input: {table:?}\n  ours: {ours:?}\n  classic: {classic:?}"
+        )),
+    }
+}
+
+/// No deadline is above the classic one of the same object, which has the same place.
+fn none_above(ours: &[PlanRow], classic: &[PlanRow], tally: &mut Tally) -> Result<(), String> {
+    for (our, classic) in ours.iter().zip(classic) {
+        if our.id != classic.id || our.deadline > classic.deadline {
+            return Err(format!("{our:?} beside the classic {classic:?}"));
+        }
+        let kind = if our.deadline < classic.deadline { BELOW } else { EQUAL };
+        tally.add(kind, 1);
     }
     Ok(())
 }

@@ -19,7 +19,7 @@ pub struct PlanRow {
 pub fn plan(count: usize, rows: &[ObjectRow]) -> Result<Vec<PlanRow>, Refusal> {
     let mut planned = Vec::new();
     for (place, row) in ranked(count, rows)?.into_iter().enumerate() {
-        let deadline = deadline(row, &planned).ok_or(refused_at(10, place))?;
+        let deadline = smallest_balance(row, &planned).ok_or(refused_at(10, place))?;
         planned.push(PlanRow {
             id: row.id,
             cost: row.cost,
@@ -49,7 +49,7 @@ fn in_priority_order(rows: &[ObjectRow]) -> Vec<ObjectRow> {
 /// the demand never falls as t grows, since no part of it does, so each t' from t up to but not including demand(t) has
 /// demand(t') >= demand(t) > t' and does not balance. Nor is t ever above its demand: it begins at 1, which no demand
 /// is below, and each later t is the demand of a smaller one and so no larger than its own.
-fn deadline(row: ObjectRow, ahead: &[PlanRow]) -> Option<u32> {
+pub(crate) fn smallest_balance(row: ObjectRow, ahead: &[PlanRow]) -> Option<u32> {
     let mut t = 1;
     while 2 * t <= u64::from(row.validity) {
         let needed = demand(row, ahead, t);
@@ -150,7 +150,7 @@ mod tests {
                     let mut planned = Vec::new();
                     for row in in_priority_order(&rows) {
                         let by_every_t = deadline_by_every_t(row, &planned);
-                        assert_eq!(deadline(row, &planned), by_every_t, "{rows:?}");
+                        assert_eq!(smallest_balance(row, &planned), by_every_t, "{rows:?}");
                         let Some(deadline) = by_every_t else {
                             none += 1;
                             break;

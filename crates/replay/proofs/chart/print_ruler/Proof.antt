@@ -6,8 +6,8 @@ use Rattle.replay.proofs.chart.print_ruler.Tie as tie
 use Rattle.replay.proofs.chart.print_ruler.Reads as reads
 use Rattle.replay.proofs.chart.print_ruler.Lts as lts
 use Rattle.replay.proofs.chart.put_mark.Reads as put-mark-reads
-use Rattle.replay.proofs.line.end.Reads as end-reads
-use Rattle.replay.proofs.line.put_text.Reads as put-text-reads
+use Rattle.printing.proofs.end.Reads as end-reads
+use Rattle.printing.proofs.put_text.Reads as put-text-reads
 use Rattle.std.proofs.num.wrapping_add_usize.Reads as wrapping-add-usize-reads
 
 abbrev Inv-loop : tie.InvT-loop

@@ -1,11 +1,11 @@
--- `replay::line::put_blanks` ends. Assumes nothing.
+-- `printing::line::put_blanks` ends. Assumes nothing.
 use Prim.Native.Nat.{_≤_, _-_}
 use borrow.Author.Needs.{needs}
-use Rattle.replay.proofs.line.put_blanks.Statement.{statement}
-use Rattle.replay.proofs.line.put_blanks.Tie as tie
-use Rattle.replay.proofs.line.put_blanks.Reads as reads
-use Rattle.replay.proofs.line.put_blanks.Lts as lts
-use Rattle.replay.proofs.line.put.Reads as put-reads
+use Rattle.printing.proofs.line.put_blanks.Statement.{statement}
+use Rattle.printing.proofs.line.put_blanks.Tie as tie
+use Rattle.printing.proofs.line.put_blanks.Reads as reads
+use Rattle.printing.proofs.line.put_blanks.Lts as lts
+use Rattle.printing.proofs.line.put.Reads as put-reads
 
 abbrev Inv-loop : tie.InvT-loop
 Inv-loop line₀ at count to₀ i₀ line to i = i ≤ count

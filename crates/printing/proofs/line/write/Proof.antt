@@ -1,13 +1,13 @@
--- `replay::line::write` stays within the bytes. Assumes nothing.
+-- `printing::line::write` stays within the bytes. Assumes nothing.
 use mathlib.Core.Path.{sym}
 use native.Mathlib.Omega.{arith}
 use lib.Seq.{length-take-le}
 use borrow.Author.Needs.{needs}
-use Rattle.replay.proofs.line.write.Statement.{statement}
-use Rattle.replay.proofs.line.write.Tie as tie
-use Rattle.replay.proofs.line.write.Reads as reads
-use Rattle.replay.proofs.line.write.Lts as lts
+use Rattle.printing.proofs.line.write.Statement.{statement}
+use Rattle.printing.proofs.line.write.Tie as tie
+use Rattle.printing.proofs.line.write.Reads as reads
+use Rattle.printing.proofs.line.write.Lts as lts
 use Rattle.printing.proofs.text.Reads as text-reads
 
 -- src/line.rt:53:24
 slice-aggregate-text : tie.Need-slice-aggregate-text

@@ -1,11 +1,11 @@
--- `replay::line::put_text` stays within the bytes and ends. Assumes nothing.
+-- `printing::line::put_text` stays within the bytes and ends. Assumes nothing.
 use Prim.Native.Nat.{_≤_, _-_}
 use borrow.Author.Needs.{needs}
-use Rattle.replay.proofs.line.put_text.Statement.{statement}
-use Rattle.replay.proofs.line.put_text.Tie as tie
-use Rattle.replay.proofs.line.put_text.Reads as reads
-use Rattle.replay.proofs.line.put_text.Lts as lts
-use Rattle.replay.proofs.line.put.Reads as put-reads
+use Rattle.printing.proofs.line.put_text.Statement.{statement}
+use Rattle.printing.proofs.line.put_text.Tie as tie
+use Rattle.printing.proofs.line.put_text.Reads as reads
+use Rattle.printing.proofs.line.put_text.Lts as lts
+use Rattle.printing.proofs.line.put.Reads as put-reads
 
 abbrev Inv-loop : tie.InvT-loop
 Inv-loop line₀ at text to₀ i₀ i-end line to i = i ≤ i-end

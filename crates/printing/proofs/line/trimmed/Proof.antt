@@ -1,10 +1,10 @@
--- `replay::line::trimmed` stays within the line and ends. Assumes nothing.
+-- `printing::line::trimmed` stays within the line and ends. Assumes nothing.
 use Prim.Native.Nat.{_≤_, _-_}
 use borrow.Author.Needs.{needs}
-use Rattle.replay.proofs.line.trimmed.Statement.{statement}
-use Rattle.replay.proofs.line.trimmed.Tie as tie
-use Rattle.replay.proofs.line.trimmed.Reads as reads
-use Rattle.replay.proofs.line.trimmed.Lts as lts
+use Rattle.printing.proofs.line.trimmed.Statement.{statement}
+use Rattle.printing.proofs.line.trimmed.Tie as tie
+use Rattle.printing.proofs.line.trimmed.Reads as reads
+use Rattle.printing.proofs.line.trimmed.Lts as lts
 
 abbrev Inv-loop : tie.InvT-loop
 Inv-loop line at to₀ i₀ to i = i ≤ 160

@@ -50,7 +50,7 @@ pub fn put_padded(line: &mut [u8; 160], at: usize, n: u64, width: usize) -> usiz
 // The bytes before `to`.
 fn write(bytes: &[u8], to: usize) {
     if to <= bytes.len() {
-        printing::text(&bytes[..to]);
+        super::text(&bytes[..to]);
     }
 }
 

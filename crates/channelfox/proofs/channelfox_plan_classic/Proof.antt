@@ -1,0 +1,25 @@
+-- `channelfox_plan_classic` meets its contract. Assumes nothing.
+use mathlib.Core.Path.{_∙_}
+use borrow.Author.Needs.{needs}
+use Rattle.channelfox.proofs.channelfox_plan_classic.Statement.{statement}
+use Rattle.channelfox.proofs.channelfox_plan_classic.Tie as tie
+use Rattle.channelfox.proofs.channelfox_plan_classic.Reads as reads
+use Rattle.channelfox.proofs.channelfox_plan_classic.Lts as lts
+use Rattle.channelfox.proofs.plan_form.Reads as plan-form-reads
+use Rattle.planning.proofs.plan_classic.Reads as plan-classic-reads
+
+-- src/lib.rt:215:15
+plan-classic-requires : tie.Need-plan-classic-requires
+plan-classic-requires c κs = search needs
+
+-- src/lib.rt:215:5
+plan-form-requires : tie.Need-plan-form-requires
+plan-form-requires c κs = search needs
+
+-- src/lib.rt:211:1
+returns : tie.Need-returns
+returns c = c .plan-form .ensures ∙ rw (c .before .plan-classic .ensures)
+
+pub channelfox-plan-classic-spec : {M : Type 1} → statement M
+channelfox-plan-classic-spec =
+    tie.close (tie.spec plan-classic-requires plan-form-requires returns)

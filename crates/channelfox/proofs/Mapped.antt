@@ -9,6 +9,7 @@ use lib.ListN.{length, take, drop, getD, set, length-map, length-set, drop-of-le
 use lib.Seq.{take-suc, take-suc-set, take-all, drop-cons}
 use Rattle.channelfox.specs.declared.CRunRow.{CRunRow}
 use Rattle.channelfox.specs.Forms.{isForm, everyForm}
+use Rattle.rules.proofs.Tests.{and-assoc, and-true}
 
 -- the first i rows are done, of 64
 pub record Done {A B : Type 0} (f : A → B) (from : List A) (to : List B) (i : ℕ) : Type 0 where
@@ -35,14 +36,6 @@ module _ {A B : Type 0} {f : A → B} where
   pub done-all : {from : List A} {to : List B} {i : ℕ} → Done f from to i → 64 ≤ i → to ≡ map f from
   done-all {from} {to} {i} g h =
       sym (take-all i to (omega (arith, g .room))) ∙ (g .same ∙ ap (map f) (take-all i from (omega (arith, g .long))))
-
-and-assoc : (a b c : Bool) → a && b && c ≡ a && (b && c)
-and-assoc true b c = refl
-and-assoc false b c = refl
-
-and-true : (a : Bool) → a && true ≡ a
-and-true true = refl
-and-true false = refl
 
 -- the test of the rows, those before i being in `ok`
 pub record Tested (rows : List CRunRow) (ok : Bool) (i : ℕ) : Type 0 where

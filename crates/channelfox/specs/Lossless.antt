@@ -15,6 +15,7 @@ use Rattle.rules.specs.Run.{steppedOf, advancedOf}
 use Rattle.channelfox.specs.declared.CRun.{CRun}
 use Rattle.channelfox.specs.declared.CRunRow.{CRunRow}
 use Rattle.channelfox.specs.Forms.{storedKind, storedHeld, storedOf, rowForm, rowOf, isForm, everyForm, runForm, runOf, allForms, noForm, slotForm, advanceForm}
+use Rattle.rules.proofs.Tests.{both-true}
 
 mark-back : (l : Bool) → not (eqb (cond l 1 0) 0) ≡ l
 mark-back true = refl
@@ -31,10 +32,6 @@ unfolding rowOf rowForm
 row-there-and-back r = rw (mark-back (r .lapsed), stored-back (r .stored))
 
 -- what stands for a row, to the row and back
-and-both : (a b : Bool) → a && b ≡ true → (a ≡ true) × (b ≡ true)
-and-both true b e = (refl, e)
-and-both false b e = absurd (true≢false (sym e))
-
 mark-there : (x : ℕ) → leb x 1 ≡ true → cond (not (eqb x 0)) 1 0 ≡ x
 mark-there zero h = refl
 mark-there (suc zero) h = refl
@@ -60,15 +57,15 @@ held-there (suc (suc (suc n))) held h e = absurd (let z = leb-true (suc (suc (su
 pub row-back-and-there : (c : CRunRow) → isForm c ≡ true → rowForm (rowOf c) ≡ c
 unfolding rowOf rowForm isForm
 row-back-and-there c e =
-    let a = and-both (leb (c .lapsed) 1 && leb (c .stored) 2) (eqb (c .held) 0 || eqb (c .stored) 1) e in
-    let b = and-both (leb (c .lapsed) 1) (leb (c .stored) 2) (a .0) in
+    let a = both-true (leb (c .lapsed) 1 && leb (c .stored) 2) (eqb (c .held) 0 || eqb (c .stored) 1) e in
+    let b = both-true (leb (c .lapsed) 1) (leb (c .stored) 2) (a .0) in
     rw (mark-there (c .lapsed) (b .0), kind-there (c .stored) (c .held) (b .1), held-there (c .stored) (c .held) (b .1) (a .1))
 
 rows-back : (cs : List CRunRow) → everyForm cs ≡ true → map rowForm (map rowOf cs) ≡ cs
 unfolding everyForm
 rows-back [] e = refl
 rows-back (c ∷ cs) e =
-    let a = and-both (isForm c) (everyForm cs) e in
+    let a = both-true (isForm c) (everyForm cs) e in
     rw (row-back-and-there c (a .0), rows-back cs (a .1))
 
 rows-there : (rs : List RunRow) → map rowOf (map rowForm rs) ≡ rs

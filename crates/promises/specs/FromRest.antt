@@ -24,7 +24,8 @@ use Rattle.promises.specs.Plans.{PlannedRows}
 use Rattle.promises.specs.InTime.{Planned}
 use Rattle.promises.specs.Encode.{Low, Fits, runAfter, runRow, NothingLeft, encode}
 use Rattle.promises.specs.Clock.{counted-from}
-use Rattle.promises.specs.Tests.{cond-holds, and-left, and-right}
+use Rattle.promises.specs.Tests.{cond-holds}
+use Rattle.rules.proofs.Tests.{and-left, and-right}
 use Rattle.promises.specs.Sound.{ok-sound, Runnable, runnable-none, runnable-more}
 use Rattle.promises.specs.Slots.{plans, slot-used, after-count}
 use Rattle.promises.specs.Tie.{firstsOf, startWith, run-row, run-count}

@@ -20,7 +20,8 @@ use Rattle.promises.specs.History.{Object, plansOf}
 use Rattle.rules.proofs.Lists.{Every, every-take, every-drop, every-append}
 use Rattle.promises.specs.Encode.{Low, Fits, stolenIn, runAfter, stepsAfter, stepsOver}
 use Rattle.promises.specs.Clock.{near-next, near-due}
-use Rattle.promises.specs.Tests.{cond-holds, and-left, and-right, and-parts}
+use Rattle.promises.specs.Tests.{cond-holds, and-parts}
+use Rattle.rules.proofs.Tests.{and-left, and-right}
 use Rattle.promises.specs.Sound.{Sound, ok-sound, sound-ok, Runnable, runnable-rest}
 use Rattle.promises.specs.Slots.{plans, slot-plans, slot-used, slot-beyond, slot-size}
 use Rattle.promises.specs.Tie.{firstsOf, startWith}

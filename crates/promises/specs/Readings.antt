@@ -18,7 +18,7 @@ use Rattle.rules.specs.Run.{noRunRow, valueOf, readFrom, readingOf, trueReading
 use Rattle.promises.specs.History.{Object, object, state, trueAge}
 use Rattle.promises.specs.Encode.{Fits, runAfter, runRow, clockAt, storedAt, encode}
 use Rattle.promises.specs.Clock.{age-true}
-use Rattle.promises.specs.Tests.{and-left, and-right}
+use Rattle.rules.proofs.Tests.{and-left, and-right}
 use Rattle.promises.specs.Bounds.{state-bounded}
 use Rattle.promises.specs.Tie.{startWith, run-row, run-clock, run-count}
 use Rattle.promises.specs.NeverRefused.{accept-parts, accept-size, runs-keep, Startable, start-acceptable, start-fits}

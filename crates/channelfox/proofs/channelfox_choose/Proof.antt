@@ -7,15 +7,12 @@ use Rattle.channelfox.proofs.channelfox_choose.Reads as reads
 use Rattle.channelfox.proofs.channelfox_choose.Lts as lts
 use Rattle.tables.proofs.chosen_part.Reads as chosen-part-reads
 
--- src/lib.rt:167:9
 chosen-part-requires : tie.Need-chosen-part-requires
 chosen-part-requires c κs = search needs
 
--- src/lib.rt:163:1
 returns : tie.Need-returns
 returns c = rw (← c .before .chosen-part .ensures, c .if1 .taken)
 
--- src/lib.rt:163:1
 returns-2 : tie.Need-returns-2
 returns-2 c = rw (← c .before .chosen-part .ensures, c .if1 .left)
 

@@ -8,15 +8,12 @@ use Rattle.channelfox.proofs.channelfox_import.Lts as lts
 use Rattle.channelfox.proofs.read_form.Reads as read-form-reads
 use Rattle.sheets.proofs.import.Reads as import-reads
 
--- src/lib.rt:153:15
 import-requires : tie.Need-import-requires
 import-requires c κs = search needs
 
--- src/lib.rt:153:5
 read-form-requires : tie.Need-read-form-requires
 read-form-requires c κs = search needs
 
--- src/lib.rt:149:1
 returns : tie.Need-returns
 returns c = c .read-form .ensures ∙ rw (c .before .import .ensures)
 

@@ -8,15 +8,12 @@ use Rattle.channelfox.proofs.channelfox_plan_classic.Lts as lts
 use Rattle.channelfox.proofs.plan_form.Reads as plan-form-reads
 use Rattle.planning.proofs.plan_classic.Reads as plan-classic-reads
 
--- src/lib.rt:215:15
 plan-classic-requires : tie.Need-plan-classic-requires
 plan-classic-requires c κs = search needs
 
--- src/lib.rt:215:5
 plan-form-requires : tie.Need-plan-form-requires
 plan-form-requires c κs = search needs
 
--- src/lib.rt:211:1
 returns : tie.Need-returns
 returns c = c .plan-form .ensures ∙ rw (c .before .plan-classic .ensures)
 

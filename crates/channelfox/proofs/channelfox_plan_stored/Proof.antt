@@ -10,42 +10,33 @@ use Rattle.planning.proofs.plan_table.Reads as plan-table-reads
 use Rattle.rules.proofs.empty_plan.Reads as empty-plan-reads
 use Rattle.tables.proofs.read.Reads as read-reads
 
--- src/lib.rt:188:9
 read-requires : tie.Need-read-requires
 read-requires c κs = search needs
 
--- src/lib.rt:192:40
 enum-told : tie.Need-enum-told
 enum-told c = search needs
 
--- src/lib.rt:192:40
 plan-table-requires : tie.Need-plan-table-requires
 plan-table-requires c κs = search needs
 
--- src/lib.rt:192:30
 plan-form-requires : tie.Need-plan-form-requires
 plan-form-requires c κs = search needs
 
--- src/lib.rt:195:19
 enum-told-2 : tie.Need-enum-told-2
 enum-told-2 c = search needs
 
--- src/lib.rt:195:19
 empty-plan-requires : tie.Need-empty-plan-requires
 empty-plan-requires c κs = search needs
 
--- src/lib.rt:193:35
 plan-form-requires-2 : tie.Need-plan-form-requires-2
 plan-form-requires-2 c κs = search needs
 
--- src/lib.rt:184:1
 returns : tie.Need-returns
 returns c =
     let r = c .before .before .before .before .before .read .ensures in
     let e = c .before .before .enum-told .given .1 in
     c .plan-form .ensures ∙ rw (c .before .plan-table .ensures, ← r, e)
 
--- src/lib.rt:184:1
 returns-2 : tie.Need-returns-2
 returns-2 c =
     let r = c .before .before .before .before .before .read .ensures in

@@ -8,15 +8,12 @@ use Rattle.channelfox.proofs.channelfox_plan_table.Lts as lts
 use Rattle.channelfox.proofs.plan_form.Reads as plan-form-reads
 use Rattle.planning.proofs.plan_table.Reads as plan-table-reads
 
--- src/lib.rt:180:15
 plan-table-requires : tie.Need-plan-table-requires
 plan-table-requires c κs = search needs
 
--- src/lib.rt:180:5
 plan-form-requires : tie.Need-plan-form-requires
 plan-form-requires c κs = search needs
 
--- src/lib.rt:176:1
 returns : tie.Need-returns
 returns c = c .plan-form .ensures ∙ rw (c .before .plan-table .ensures)
 

@@ -12,28 +12,22 @@ use Rattle.channelfox.proofs.forms.run_of.Reads as run-of-reads
 use Rattle.channelfox.proofs.reading_form.Reads as reading-form-reads
 use Rattle.running.proofs.read_value.Reads as read-value-reads
 
--- src/lib.rt:281:9
 all-forms-requires : tie.Need-all-forms-requires
 all-forms-requires c κs = search needs
 
--- src/lib.rt:282:9
 returns : tie.Need-returns
 unfolding readValueForm
 returns c = rw (sym (c .before .all-forms .ensures) ∙ not-true _ (c .if1 .taken))
 
--- src/lib.rt:291:38
 run-of-requires : tie.Need-run-of-requires
 run-of-requires c κs = search needs
 
--- src/lib.rt:291:18
 read-value-requires : tie.Need-read-value-requires
 read-value-requires c κs = search needs
 
--- src/lib.rt:291:5
 reading-form-requires : tie.Need-reading-form-requires
 reading-form-requires c κs = search needs
 
--- src/lib.rt:277:1
 returns-2 : tie.Need-returns-2
 unfolding readValueForm
 returns-2 c = c .reading-form .ensures ∙ rw (sym (c .before .before .before .before .all-forms .ensures) ∙ not-false _ (c .before .before .before .if1 .left), c .before .read-value .ensures, c .before .before .run-of .ensures)

@@ -8,15 +8,12 @@ use Rattle.channelfox.proofs.channelfox_start.Lts as lts
 use Rattle.channelfox.proofs.started_form.Reads as started-form-reads
 use Rattle.running.proofs.start.Reads as start-reads
 
--- src/lib.rt:206:18
 start-requires : tie.Need-start-requires
 start-requires c κs = search needs
 
--- src/lib.rt:206:5
 started-form-requires : tie.Need-started-form-requires
 started-form-requires c κs = search needs
 
--- src/lib.rt:202:1
 returns : tie.Need-returns
 returns c = c .started-form .ensures ∙ rw (c .before .start .ensures)
 

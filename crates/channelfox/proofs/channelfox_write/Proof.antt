@@ -9,19 +9,15 @@ use Rattle.channelfox.proofs.channelfox_write.Lts as lts
 use Rattle.channelfox.proofs.written_form.Reads as written-form-reads
 use Rattle.tables.proofs.write.Reads as write-reads
 
--- src/lib.rt:201:18
 write-requires : tie.Need-write-requires
 write-requires c κs = search needs
 
--- src/lib.rt:201:5
 written-form-requires : tie.Need-written-form-requires
 written-form-requires c κs = search needs
 
--- src/lib.rt:197:1
 same-length : tie.Need-same-length
 same-length c = search needs
 
--- src/lib.rt:197:1
 returns : tie.Need-returns
 returns c = let w = c .before .before .before .write .ensures in (w .0, c .written-form .ensures ∙ ap writtenForm (w .1))
 

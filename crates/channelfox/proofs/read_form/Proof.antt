@@ -6,11 +6,9 @@ use Rattle.channelfox.proofs.read_form.Reads as reads
 use Rattle.channelfox.proofs.read_form.Lts as lts
 use Rattle.channelfox.proofs.forms.verdict_form.Reads as verdict-form-reads
 
--- src/lib.rt:96:18
 verdict-form-requires : tie.Need-verdict-form-requires
 verdict-form-requires c κs = search needs
 
--- src/lib.rt:90:1
 returns : tie.Need-returns
 returns c = rw (c .verdict-form .ensures)
 

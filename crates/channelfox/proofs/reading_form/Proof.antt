@@ -6,39 +6,30 @@ use Rattle.channelfox.proofs.reading_form.Reads as reads
 use Rattle.channelfox.proofs.reading_form.Lts as lts
 use Rattle.rules.proofs.refusal_number.Reads as refusal-number-reads
 
--- src/lib.rt:243:22
 enum-told : tie.Need-enum-told
 enum-told c = search needs
 
--- src/lib.rt:251:22
 enum-told-2 : tie.Need-enum-told-2
 enum-told-2 c = search needs
 
--- src/lib.rt:258:24
 enum-known-reading : tie.Need-enum-known-reading
 enum-known-reading c = search needs
 
--- src/lib.rt:266:26
 enum-known-reading-2 : tie.Need-enum-known-reading-2
 enum-known-reading-2 c = search needs
 
--- src/lib.rt:268:25
 refusal-number-requires : tie.Need-refusal-number-requires
 refusal-number-requires c κs = search needs
 
--- src/lib.rt:238:1
 returns : tie.Need-returns
 returns c = simp (c .enum-told .given .1)
 
--- src/lib.rt:238:1
 returns-2 : tie.Need-returns-2
 returns-2 c = simp (c .enum-told2 .given .1)
 
--- src/lib.rt:238:1
 returns-3 : tie.Need-returns-3
 returns-3 c = simp (c .before .reading .given .1)
 
--- src/lib.rt:238:1
 returns-4 : tie.Need-returns-4
 returns-4 c = rw (c .refusal-number .ensures, c .before .before .reading2 .given .1)
 

@@ -13,32 +13,25 @@ use Rattle.channelfox.proofs.no_form.Reads as no-form-reads
 use Rattle.channelfox.proofs.stepped_form.Reads as stepped-form-reads
 use Rattle.running.proofs.slot.Reads as slot-reads
 
--- src/lib.rt:213:9
 all-forms-requires : tie.Need-all-forms-requires
 all-forms-requires c κs = search needs
 
--- src/lib.rt:214:9
 no-form-requires : tie.Need-no-form-requires
 no-form-requires c κs = search needs
 
--- src/lib.rt:214:9
 returns : tie.Need-returns
 unfolding slotForm
 returns c = c .no-form .ensures ∙ rw (sym (c .before .before .all-forms .ensures) ∙ not-true _ (c .before .if1 .taken))
 
--- src/lib.rt:216:32
 run-of-requires : tie.Need-run-of-requires
 run-of-requires c κs = search needs
 
--- src/lib.rt:216:18
 slot-requires : tie.Need-slot-requires
 slot-requires c κs = search needs
 
--- src/lib.rt:216:5
 stepped-form-requires : tie.Need-stepped-form-requires
 stepped-form-requires c κs = search needs
 
--- src/lib.rt:210:1
 returns-2 : tie.Need-returns-2
 unfolding slotForm
 returns-2 c = c .stepped-form .ensures ∙ rw (sym (c .before .before .before .before .all-forms .ensures) ∙ not-false _ (c .before .before .before .if1 .left), c .before .slot .ensures, c .before .before .run-of .ensures)

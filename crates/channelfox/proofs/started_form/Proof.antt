@@ -7,15 +7,12 @@ use Rattle.channelfox.proofs.started_form.Lts as lts
 use Rattle.channelfox.proofs.forms.run_form.Reads as run-form-reads
 use Rattle.channelfox.proofs.forms.verdict_form.Reads as verdict-form-reads
 
--- src/lib.rt:118:18
 verdict-form-requires : tie.Need-verdict-form-requires
 verdict-form-requires c κs = search needs
 
--- src/lib.rt:119:14
 run-form-requires : tie.Need-run-form-requires
 run-form-requires c κs = search needs
 
--- src/lib.rt:112:1
 returns : tie.Need-returns
 returns c = rw (c .run-form .ensures, c .before .verdict-form .ensures)
 

@@ -15,71 +15,54 @@ Inv-loop fits planned ranked classic ours i₀ i = i ≤ 64
 abbrev μ-loop : tie.MeasureT-loop
 μ-loop fits planned ranked classic ours i₀ i = 64 - i
 
--- src/main.rt:88:20
 slice-aggregate-text : tie.Need-slice-aggregate-text Inv-loop μ-loop
 slice-aggregate-text c = search needs
 
--- src/main.rt:88:5
 text-requires : tie.Need-text-requires Inv-loop μ-loop
 text-requires c κs = search needs
 
--- src/main.rt:89:20
 slice-aggregate-text-2 : tie.Need-slice-aggregate-text-2 Inv-loop μ-loop
 slice-aggregate-text-2 c = search needs
 
--- src/main.rt:89:5
 text-requires-2 : tie.Need-text-requires-2 Inv-loop μ-loop
 text-requires-2 c κs = search needs
 
--- src/main.rt:90:5
 loop-holds : tie.Need-loop-holds Inv-loop μ-loop
 loop-holds c = search needs
 
--- src/main.rt:92:26
 mul-object : tie.Need-mul-object Inv-loop μ-loop
 mul-object c = search needs
 
--- src/main.rt:92:26
 element-copy-out-object : tie.Need-element-copy-out-object Inv-loop μ-loop
 element-copy-out-object c = search needs
 
--- src/main.rt:93:24
 mul-half : tie.Need-mul-half Inv-loop μ-loop
 mul-half c = search needs
 
--- src/main.rt:93:24
 element-copy-out-half : tie.Need-element-copy-out-half Inv-loop μ-loop
 element-copy-out-half c = search needs
 
--- src/main.rt:94:24
 mul-less : tie.Need-mul-less Inv-loop μ-loop
 mul-less c = search needs
 
--- src/main.rt:94:24
 element-copy-out-less : tie.Need-element-copy-out-less Inv-loop μ-loop
 element-copy-out-less c = search needs
 
--- src/main.rt:95:13
 print-row-requires : tie.Need-print-row-requires Inv-loop μ-loop
 print-row-requires c κs = search needs
 
--- src/main.rt:90:9
 add-i : tie.Need-add-i Inv-loop μ-loop
 add-i c = search needs
 
--- src/main.rt:90:5
 loop-less : tie.Need-loop-less Inv-loop μ-loop
 loop-less c = search needs
 
--- src/main.rt:90:5
 loop-again : tie.Need-loop-again Inv-loop μ-loop
 loop-again c = search needs
 
--- src/main.rt:98:5
 print-totals-requires : tie.Need-print-totals-requires Inv-loop μ-loop
 print-totals-requires c κs = search needs
 
--- src/main.rt:87:1
 returns : tie.Need-returns Inv-loop μ-loop
 returns c = search needs
 

@@ -14,39 +14,30 @@ Inv-loop plan sum₀ i₀ sum i = i ≤ 64
 abbrev μ-loop : tie.MeasureT-loop
 μ-loop plan sum₀ i₀ sum i = 64 - i
 
--- src/main.rt:29:5
 loop-holds : tie.Need-loop-holds Inv-loop μ-loop
 loop-holds c = search needs
 
--- src/main.rt:30:19
 mul-row : tie.Need-mul-row Inv-loop μ-loop
 mul-row c = search needs
 
--- src/main.rt:30:19
 element-copy-out-row : tie.Need-element-copy-out-row Inv-loop μ-loop
 element-copy-out-row c = search needs
 
--- src/main.rt:31:47
 share-requires : tie.Need-share-requires Inv-loop μ-loop
 share-requires c κs = search needs
 
--- src/main.rt:31:9
 wrapping-add-u64-requires : tie.Need-wrapping-add-u64-requires Inv-loop μ-loop
 wrapping-add-u64-requires c κs = search needs
 
--- src/main.rt:29:9
 add-i : tie.Need-add-i Inv-loop μ-loop
 add-i c = search needs
 
--- src/main.rt:29:5
 loop-less : tie.Need-loop-less Inv-loop μ-loop
 loop-less c = search needs
 
--- src/main.rt:29:5
 loop-again : tie.Need-loop-again Inv-loop μ-loop
 loop-again c = search needs
 
--- src/main.rt:27:1
 returns : tie.Need-returns Inv-loop μ-loop
 returns c = search needs
 

@@ -13,22 +13,18 @@ use Rattle.export_sheet.proofs.write_sheet.Lts as lts
 use Rattle.printing.proofs.text.Reads as text-reads
 use Rattle.sheets.proofs.export.Reads as export-reads
 
--- src/main.rt:10:41
 slice-aggregate-export : tie.Need-slice-aggregate-export
 slice-aggregate-export c = search needs
 
--- src/main.rt:10:9
 export-requires : tie.Need-export-requires
 export-requires c κs = search needs
 
--- src/main.rt:12:20
 array-share-prefix-bytes : tie.Need-array-share-prefix-bytes
 array-share-prefix-bytes c =
     let w = c .before .export in
     let few : w .result .length ≤ 1472 = rw (w .ensures .1) (exported-within (c .before .before .before .args .table) _) in
     search needs
 
--- src/main.rt:12:20
 slice-aggregate-text : tie.Need-slice-aggregate-text
 slice-aggregate-text c =
     let w = c .before .before .export in
@@ -36,11 +32,9 @@ slice-aggregate-text c =
     let long : length (w .last .1 .0) ≡ 1472 = search needs in
     sym (length-take-le (w .result .length) (w .last .1 .0) (omega (arith, few, long)))
 
--- src/main.rt:12:5
 text-requires : tie.Need-text-requires
 text-requires c κs = search needs
 
--- src/main.rt:8:1
 returns : tie.Need-returns
 returns c = search needs
 

@@ -13,22 +13,18 @@ use Rattle.import_sheet.proofs.write_table.Lts as lts
 use Rattle.printing.proofs.text.Reads as text-reads
 use Rattle.tables.proofs.write.Reads as write-reads
 
--- src/main.rt:10:40
 slice-aggregate-write : tie.Need-slice-aggregate-write
 slice-aggregate-write c = search needs
 
--- src/main.rt:10:9
 write-requires : tie.Need-write-requires
 write-requires c κs = search needs
 
--- src/main.rt:12:20
 array-share-prefix-bytes : tie.Need-array-share-prefix-bytes
 array-share-prefix-bytes c =
     let w = c .before .write in
     let few : w .result .length ≤ 776 = rw (w .ensures .1) (written-at-most (c .before .before .before .args .table) _) in
     search needs
 
--- src/main.rt:12:20
 slice-aggregate-text : tie.Need-slice-aggregate-text
 slice-aggregate-text c =
     let w = c .before .before .write in
@@ -36,11 +32,9 @@ slice-aggregate-text c =
     let long : length (w .last .1 .0) ≡ 776 = search needs in
     sym (length-take-le (w .result .length) (w .last .1 .0) (omega (arith, few, long)))
 
--- src/main.rt:12:5
 text-requires : tie.Need-text-requires
 text-requires c κs = search needs
 
--- src/main.rt:8:1
 returns : tie.Need-returns
 returns c = search needs
 

@@ -8,30 +8,24 @@ use Rattle.tables.proofs.check_copied.Lts as lts
 use Rattle.rules.proofs.check_table.Reads as check-table-reads
 use Rattle.rules.proofs.empty_table.Reads as empty-table-reads
 
--- src/lib.rt:211:9
 check-table-requires : tie.Need-check-table-requires
 check-table-requires c κs = search needs
 
--- src/lib.rt:213:30
 enum-told : tie.Need-enum-told
 enum-told c = search needs
 
--- src/lib.rt:216:20
 enum-told-2 : tie.Need-enum-told-2
 enum-told-2 c = search needs
 
--- src/lib.rt:216:20
 empty-table-requires : tie.Need-empty-table-requires
 empty-table-requires c κs = search needs
 
--- src/lib.rt:208:1
 returns : tie.Need-returns
 returns c =
     let e = c .enum-told .given .1 in
     let f = sym (c .before .before .check-table .ensures) ∙ e in
     rw e (simp f)
 
--- src/lib.rt:208:1
 returns-2 : tie.Need-returns-2
 returns-2 c =
     let e = c .before .enum-told2 .given .1 in

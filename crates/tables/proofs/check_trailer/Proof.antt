@@ -10,69 +10,54 @@ use Rattle.tables.proofs.check_trailer.Lts as lts
 use Rattle.tables.proofs.read16.Reads as read16-reads
 use Rattle.tables.proofs.read32.Reads as read32-reads
 
--- src/lib.rt:48:9
 returns : tie.Need-returns
 returns c = sym (too-short (c .before .before .args .bytes .now) (c .if1 .taken))
 
--- src/lib.rt:51:9
 returns-2 : tie.Need-returns-2
 returns-2 c = sym (too-long (c .before .before .before .args .bytes .now) (c .before .if1 .left) (c .if2 .taken))
 
--- src/lib.rt:53:30
 sub-read16 : tie.Need-sub-read16
 sub-read16 c = search needs
 
--- src/lib.rt:53:9
 read16-requires : tie.Need-read16-requires
 read16-requires c κs = search needs
 
--- src/lib.rt:55:9
 returns-3 : tie.Need-returns-3
 returns-3 c = sym (wrong-mark (c .before .before .before .before .before .args .bytes .now) (c .before .before .before .if1 .left) (c .before .before .if2 .left) (rw (c .before .read16 .ensures) at (c .if3 .taken)))
 
--- src/lib.rt:57:31
 sub-read16-2 : tie.Need-sub-read16-2
 sub-read16-2 c = search needs
 
--- src/lib.rt:57:17
 read16-requires-2 : tie.Need-read16-requires-2
 read16-requires-2 c κs = search needs
 
--- src/lib.rt:57:17
 cast-count : tie.Need-cast-count
 cast-count c = search needs
 
--- src/lib.rt:59:9
 returns-4 : tie.Need-returns-4
 returns-4 c =
     sym
     (no-record (c .before .before .before .before .before .before .before .args .bytes .now) (c .before .before .before .before .before .if1 .left) (c .before .before .before .before .if2 .left) (omega (arith, c .before .before .before .read16 .ensures, c .before .before .if3 .left))
     (omega (arith, c .before .read162 .ensures, c .if4 .taken)))
 
--- src/lib.rt:62:9
 returns-5 : tie.Need-returns-5
 returns-5 c =
     sym
     (too-many (c .before .before .before .before .before .before .before .before .args .bytes .now) (c .before .before .before .before .before .before .if1 .left) (c .before .before .before .before .before .if2 .left) (omega (arith, c .before .before .before .before .read16 .ensures, c .before .before .before .if3 .left))
     (omega (arith, c .before .before .read162 .ensures, c .if5 .taken)))
 
--- src/lib.rt:64:20
 read32-requires : tie.Need-read32-requires
 read32-requires c κs = search needs
 
--- src/lib.rt:64:20
 cast-distance : tie.Need-cast-distance
 cast-distance c = search needs
 
--- src/lib.rt:65:23
 mul-if6 : tie.Need-mul-if6
 mul-if6 c = search needs
 
--- src/lib.rt:65:19
 add-if6 : tie.Need-add-if6
 add-if6 c = search needs
 
--- src/lib.rt:66:9
 returns-6 : tie.Need-returns-6
 returns-6 c =
     sym
@@ -80,7 +65,6 @@ returns-6 c =
     (omega (arith, c .before .before .before .before .read162 .ensures, c .before .before .before .if4 .left)) (omega (arith, c .before .before .before .before .read162 .ensures, c .before .before .if5 .left))
     (omega (arith, c .before .before .before .before .read162 .ensures, c .before .read32 .ensures, c .if6 .taken)))
 
--- src/lib.rt:69:9
 returns-7 : tie.Need-returns-7
 returns-7 c =
     sym
@@ -88,7 +72,6 @@ returns-7 c =
     (omega (arith, c .before .before .before .before .before .read162 .ensures, c .before .before .before .before .if4 .left)) (omega (arith, c .before .before .before .before .before .read162 .ensures, c .before .before .before .if5 .left)) (omega (arith, c .before .before .before .before .before .read162 .ensures, c .before .before .read32 .ensures, c .before .if6 .left))
     (omega (arith, c .before .before .read32 .ensures, c .if7 .taken)))
 
--- src/lib.rt:43:1
 returns-8 : tie.Need-returns-8
 returns-8 c =
     sym

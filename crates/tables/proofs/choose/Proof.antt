@@ -10,45 +10,35 @@ use Rattle.tables.proofs.choose.Reads as reads
 use Rattle.tables.proofs.choose.Lts as lts
 use Rattle.tables.proofs.chosen_part.Reads as chosen-part-reads
 
--- src/lib.rt:273:9
 chosen-part-requires : tie.Need-chosen-part-requires
 chosen-part-requires c κs = search needs
 
--- src/lib.rt:275:15
 add-end : tie.Need-add-end
 add-end c = let w = chosen-within (c .before .before .before .before .args .site .now) (c .before .before .before .before .args .factory .now) in let e = c .before .chosen-part .ensures in omega (arith, (rw (← e) at w) .small)
 
--- src/lib.rt:277:16
 sub-result : tie.Need-sub-result
 sub-result c = search needs
 
--- src/lib.rt:277:16
 part-result-start : tie.Need-part-result-start
 part-result-start c = search needs
 
--- src/lib.rt:277:16
 part-result-end : tie.Need-part-result-end
 part-result-end c = let w = chosen-within (c .before .before .before .before .before .args .site .now) (c .before .before .before .before .before .args .factory .now) in let e = c .before .before .chosen-part .ensures in omega (arith, rw (c .if1 .taken) at ((rw (← e) at w) .inside))
 
--- src/lib.rt:277:9
 returns : tie.Need-returns
 returns c =
     rw (← c .before .before .before .chosen-part .ensures, c .before .if1 .taken)
     (record { block = refl; offset = search needs; bytes = rw add-sub-cancel-left refl })
 
--- src/lib.rt:279:5
 sub-result-2 : tie.Need-sub-result-2
 sub-result-2 c = search needs
 
--- src/lib.rt:279:5
 part-result-start-2 : tie.Need-part-result-start-2
 part-result-start-2 c = search needs
 
--- src/lib.rt:279:5
 part-result-end-2 : tie.Need-part-result-end-2
 part-result-end-2 c = let w = chosen-within (c .before .before .before .before .before .args .site .now) (c .before .before .before .before .before .args .factory .now) in let e = c .before .before .chosen-part .ensures in omega (arith, rw (c .if1 .left) at ((rw (← e) at w) .inside))
 
--- src/lib.rt:270:1
 returns-2 : tie.Need-returns-2
 returns-2 c =
     rw (← c .before .before .before .chosen-part .ensures, c .before .if1 .left)

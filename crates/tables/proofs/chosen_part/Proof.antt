@@ -9,32 +9,25 @@ use Rattle.tables.proofs.chosen_part.Lts as lts
 use Rattle.tables.proofs.reads.Reads as reads-reads
 use Rattle.tables.proofs.records_part.Reads as records-part-reads
 
--- src/lib.rt:255:8
 reads-requires : tie.Need-reads-requires
 reads-requires c κs = search needs
 
--- src/lib.rt:256:9
 records-part-requires : tie.Need-records-part-requires
 records-part-requires c κs = reads-trailer (c .before .before .before .before .args .site .now) (sym (c .before .reads .ensures) ∙ c .if1 .taken)
 
--- src/lib.rt:256:9
 returns : tie.Need-returns
 returns c = rw (sym (c .before .before .reads .ensures) ∙ c .before .if1 .taken) (c .records-part .ensures)
 
--- src/lib.rt:258:8
 reads-requires-2 : tie.Need-reads-requires-2
 reads-requires-2 c κs = search needs
 
--- src/lib.rt:259:9
 records-part-requires-2 : tie.Need-records-part-requires-2
 records-part-requires-2 c κs = reads-trailer (c .before .before .before .before .before .before .args .factory .now) (sym (c .before .reads2 .ensures) ∙ c .if2 .taken)
 
--- src/lib.rt:259:9
 returns-2 : tie.Need-returns-2
 returns-2 c =
     rw (sym (c .before .before .before .before .reads .ensures) ∙ c .before .before .before .if1 .left, sym (c .before .before .reads2 .ensures) ∙ c .before .if2 .taken) (c .records-part2 .ensures)
 
--- src/lib.rt:252:1
 returns-3 : tie.Need-returns-3
 returns-3 c =
     rw (sym (c .before .before .before .reads .ensures) ∙ c .before .before .if1 .left, sym (c .before .reads2 .ensures) ∙ c .if2 .left)

@@ -16,22 +16,18 @@ use Rattle.tables.proofs.records_start.Reads as records-start-reads
 use Rattle.tables.proofs.rows_from.Reads as rows-from-reads
 use Rattle.tables.proofs.spares_from.Reads as spares-from-reads
 
--- src/lib.rt:140:9
 check-trailer-requires : tie.Need-check-trailer-requires
 check-trailer-requires c κs = search needs
 
 enum-told : tie.Need-enum-told
 enum-told c = search needs
 
--- src/lib.rt:144:20
 enum-told-2 : tie.Need-enum-told-2
 enum-told-2 c = search needs
 
--- src/lib.rt:144:20
 empty-table-requires : tie.Need-empty-table-requires
 empty-table-requires c κs = search needs
 
--- src/lib.rt:142:9
 returns : tie.Need-returns
 returns c =
     let t = c .before .before .before .check-trailer .ensures in
@@ -39,45 +35,36 @@ returns c =
     let f = sym t ∙ e in
     rw (c .empty-table .ensures, e) (simp f)
 
--- src/lib.rt:147:9
 records-count-requires : tie.Need-records-count-requires
 records-count-requires c κs = sym (c .before .before .check-trailer .ensures) ∙ c .enum-told .given .1
 
--- src/lib.rt:148:9
 records-start-requires : tie.Need-records-start-requires
 records-start-requires c κs = sym (c .before .before .before .check-trailer .ensures) ∙ c .before .enum-told .given .1
 
--- src/lib.rt:149:9
 rows-from-requires : tie.Need-rows-from-requires
 rows-from-requires c κs =
     let m = c .before .before in
     let k = readable (m .before .before .before .before .args .bytes .now) (sym (m .before .before .check-trailer .ensures) ∙ m .enum-told .given .1) in
     (omega (arith, c .before .records-count .ensures), omega (arith, c .records-start .ensures, c .before .records-count .ensures))
 
--- src/lib.rt:150:9
 spares-from-requires : tie.Need-spares-from-requires
 spares-from-requires c κs =
     let m = c .before .before .before in
     let k = readable (m .before .before .before .before .args .bytes .now) (sym (m .before .before .check-trailer .ensures) ∙ m .enum-told .given .1) in
     (omega (arith, c .before .before .records-count .ensures), omega (arith, c .before .records-start .ensures, c .before .before .records-count .ensures))
 
--- src/lib.rt:152:9
 check-records-requires : tie.Need-check-records-requires
 check-records-requires c κs = search needs
 
--- src/lib.rt:154:30
 enum-told-3 : tie.Need-enum-told-3
 enum-told-3 c = search needs
 
--- src/lib.rt:157:20
 enum-told-4 : tie.Need-enum-told-4
 enum-told-4 c = search needs
 
--- src/lib.rt:157:20
 empty-table-requires-2 : tie.Need-empty-table-requires-2
 empty-table-requires-2 c κs = search needs
 
--- src/lib.rt:137:1
 returns-2 : tie.Need-returns-2
 returns-2 c =
     let v = c .before .before in
@@ -87,7 +74,6 @@ returns-2 c =
     (v .before .before .before .before .records-count .ensures) (v .before .before .before .records-start .ensures) (v .before .before .rows-from .ensures) (v .before .spares-from .ensures) (v .check-records .ensures) in
     rw e (rw e at q)
 
--- src/lib.rt:137:1
 returns-3 : tie.Need-returns-3
 returns-3 c =
     let v = c .before .before .before in

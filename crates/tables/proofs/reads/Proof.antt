@@ -10,26 +10,21 @@ use Rattle.tables.proofs.reads.Reads as reads
 use Rattle.tables.proofs.reads.Lts as lts
 use Rattle.tables.proofs.read.Reads as read-reads
 
--- src/lib.rt:166:9
 read-requires : tie.Need-read-requires
 read-requires c κs = search needs
 
--- src/lib.rt:169:30
 enum-told : tie.Need-enum-told
 enum-told c = search needs
 
--- src/lib.rt:170:35
 enum-told-2 : tie.Need-enum-told-2
 enum-told-2 c = search needs
 
--- src/lib.rt:163:1
 returns : tie.Need-returns
 returns c =
     let s = c .before .before .before .before .args .bytes .now in
     let e : readOf s .verdict ≡ c .before .before .read .result .verdict = ap (λ (a : ReadTable). a .verdict) (sym (c .before .before .read .ensures)) in
     simp (sym (answer-verdict (readVerdict s) (tableOf (storedRows s))) ∙ (e ∙ c .enum-told .given .1))
 
--- src/lib.rt:163:1
 returns-2 : tie.Need-returns-2
 returns-2 c =
     let s = c .before .before .before .before .args .bytes .now in

@@ -8,19 +8,15 @@ use Rattle.tables.proofs.records_count.Reads as reads
 use Rattle.tables.proofs.records_count.Lts as lts
 use Rattle.tables.proofs.read16.Reads as read16-reads
 
--- src/lib.rt:79:19
 sub-read16 : tie.Need-sub-read16
 sub-read16 c = let r = readable (c .before .args .bytes .now) (c .before .pre) in omega arith
 
--- src/lib.rt:79:5
 read16-requires : tie.Need-read16-requires
 read16-requires c κs = let r = readable (c .before .args .bytes .now) (c .before .pre) in omega arith
 
--- src/lib.rt:79:5
 cast-result : tie.Need-cast-result
 cast-result c = search needs
 
--- src/lib.rt:75:1
 returns : tie.Need-returns
 returns c = search needs
 

@@ -9,19 +9,15 @@ use Rattle.tables.proofs.records_part.Lts as lts
 use Rattle.tables.proofs.records_count.Reads as records-count-reads
 use Rattle.tables.proofs.records_start.Reads as records-start-reads
 
--- src/lib.rt:246:9
 records-start-requires : tie.Need-records-start-requires
 records-start-requires c κs = search needs
 
--- src/lib.rt:247:23
 records-count-requires : tie.Need-records-count-requires
 records-count-requires c κs = search needs
 
--- src/lib.rt:247:18
 mul-length : tie.Need-mul-length
 mul-length c = let r = readable (c .before .before .before .args .bytes .now) (c .before .before .before .pre) in omega (arith, c .records-count .ensures)
 
--- src/lib.rt:242:1
 returns : tie.Need-returns
 returns c = rw (c .records-count .ensures, c .before .records-start .ensures)
 

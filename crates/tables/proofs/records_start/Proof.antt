@@ -8,23 +8,18 @@ use Rattle.tables.proofs.records_start.Reads as reads
 use Rattle.tables.proofs.records_start.Lts as lts
 use Rattle.tables.proofs.read32.Reads as read32-reads
 
--- src/lib.rt:88:26
 sub-read32 : tie.Need-sub-read32
 sub-read32 c = let r = readable (c .before .args .bytes .now) (c .before .pre) in omega arith
 
--- src/lib.rt:88:12
 read32-requires : tie.Need-read32-requires
 read32-requires c κs = let r = readable (c .before .args .bytes .now) (c .before .pre) in omega arith
 
--- src/lib.rt:88:12
 cast-result : tie.Need-cast-result
 cast-result c = search needs
 
--- src/lib.rt:88:5
 sub-result : tie.Need-sub-result
 sub-result c = let r = readable (c .before .before .args .bytes .now) (c .before .before .pre) in omega (arith, c .read32 .ensures)
 
--- src/lib.rt:83:1
 returns : tie.Need-returns
 returns c = search needs
 

@@ -7,27 +7,21 @@ use Rattle.tables.proofs.row_at.Lts as lts
 use Rattle.tables.proofs.read16.Reads as read16-reads
 use Rattle.tables.proofs.read32.Reads as read32-reads
 
--- src/lib.rt:80:13
 read16-requires : tie.Need-read16-requires
 read16-requires c κs = search needs
 
--- src/lib.rt:81:29
 add-read32 : tie.Need-add-read32
 add-read32 c = search needs
 
--- src/lib.rt:81:15
 read32-requires : tie.Need-read32-requires
 read32-requires c κs = search needs
 
--- src/lib.rt:82:33
 add-read32-2 : tie.Need-add-read32-2
 add-read32-2 c = search needs
 
--- src/lib.rt:82:19
 read32-requires-2 : tie.Need-read32-requires-2
 read32-requires-2 c κs = search needs
 
--- src/lib.rt:75:1
 returns : tie.Need-returns
 returns c = cc
 

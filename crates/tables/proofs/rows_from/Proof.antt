@@ -19,46 +19,36 @@ Inv-loop bytes start count rows₀ n₀ rows n = (n ≤ count) × (rows ≡ reco
 abbrev μ-loop : tie.MeasureT-loop
 μ-loop bytes start count rows₀ n₀ rows n = count - n
 
--- src/lib.rt:98:5
 loop-holds : tie.Need-loop-holds Inv-loop μ-loop
 loop-holds c = (search needs, refl)
 
--- src/lib.rt:99:41
 mul-row-at : tie.Need-mul-row-at Inv-loop μ-loop
 mul-row-at c = search needs
 
--- src/lib.rt:99:33
 add-row-at : tie.Need-add-row-at Inv-loop μ-loop
 add-row-at c = search needs
 
--- src/lib.rt:99:19
 row-at-requires : tie.Need-row-at-requires Inv-loop μ-loop
 row-at-requires c κs = search needs
 
--- src/lib.rt:99:9
 mul-rows : tie.Need-mul-rows Inv-loop μ-loop
 mul-rows c = search needs
 
--- src/lib.rt:99:9
 array-set-from-rows : tie.Need-array-set-from-rows Inv-loop μ-loop
 array-set-from-rows c = search needs
 
--- src/lib.rt:100:9
 add-n : tie.Need-add-n Inv-loop μ-loop
 add-n c = search needs
 
--- src/lib.rt:98:5
 loop-less : tie.Need-loop-less Inv-loop μ-loop
 loop-less c = search needs
 
--- src/lib.rt:98:5
 loop-again : tie.Need-loop-again Inv-loop μ-loop
 loop-again c =
     let l = c .before .before in
     let a = l .before .before .args in
     (search needs, rw (c .row-at .ensures, l .loop .inv .1) (fill-next rowOf noRow (a .bytes .now) (a .start) (l .loop .n) (search needs)))
 
--- src/lib.rt:87:1
 returns : tie.Need-returns Inv-loop μ-loop
 returns c =
     let l = c .before in

@@ -9,19 +9,15 @@ use Rattle.running.proofs.start.Reads as start-reads
 use Rattle.timing.proofs.seen_at.Reads as seen-at-reads
 use Rattle.timing.proofs.slots_in_place.Reads as slots-in-place-reads
 
--- src/lib.rt:55:9
 start-requires : tie.Need-start-requires
 start-requires c κs = search needs
 
--- src/lib.rt:56:9
 slots-in-place-requires : tie.Need-slots-in-place-requires
 slots-in-place-requires c κs = search needs
 
--- src/lib.rt:57:5
 seen-at-requires : tie.Need-seen-at-requires
 seen-at-requires c κs = search needs
 
--- src/lib.rt:51:1
 returns : tie.Need-returns
 returns c = c .seen-at .ensures ∙ rw (c .before .slots-in-place .ensures, c .before .before .start .ensures)
 

@@ -14,87 +14,66 @@ Inv-loop plan i₀ t5 t6 t7 t8 i = i ≤ 64
 abbrev μ-loop : tie.MeasureT-loop
 μ-loop plan i₀ t5 t6 t7 t8 i = 64 - i
 
--- src/planning_cases.rt:24:5
 loop-holds : tie.Need-loop-holds Inv-loop μ-loop
 loop-holds c = search needs
 
--- src/planning_cases.rt:26:23
 mul-one : tie.Need-mul-one Inv-loop μ-loop
 mul-one c = search needs
 
--- src/planning_cases.rt:26:23
 element-copy-out-one : tie.Need-element-copy-out-one Inv-loop μ-loop
 element-copy-out-one c = search needs
 
--- src/planning_cases.rt:27:28
 slice-aggregate-text : tie.Need-slice-aggregate-text Inv-loop μ-loop
 slice-aggregate-text c = search needs
 
--- src/planning_cases.rt:27:13
 text-requires : tie.Need-text-requires Inv-loop μ-loop
 text-requires c κs = search needs
 
--- src/planning_cases.rt:28:30
 cast-number : tie.Need-cast-number Inv-loop μ-loop
 cast-number c = search needs
 
--- src/planning_cases.rt:28:13
 number-requires : tie.Need-number-requires Inv-loop μ-loop
 number-requires c κs = search needs
 
--- src/planning_cases.rt:29:28
 slice-aggregate-text-2 : tie.Need-slice-aggregate-text-2 Inv-loop μ-loop
 slice-aggregate-text-2 c = search needs
 
--- src/planning_cases.rt:29:13
 text-requires-2 : tie.Need-text-requires-2 Inv-loop μ-loop
 text-requires-2 c κs = search needs
 
--- src/planning_cases.rt:30:30
 cast-number-2 : tie.Need-cast-number-2 Inv-loop μ-loop
 cast-number-2 c = search needs
 
--- src/planning_cases.rt:30:13
 number-requires-2 : tie.Need-number-requires-2 Inv-loop μ-loop
 number-requires-2 c κs = search needs
 
--- src/planning_cases.rt:31:28
 slice-aggregate-text-3 : tie.Need-slice-aggregate-text-3 Inv-loop μ-loop
 slice-aggregate-text-3 c = search needs
 
--- src/planning_cases.rt:31:13
 text-requires-3 : tie.Need-text-requires-3 Inv-loop μ-loop
 text-requires-3 c κs = search needs
 
--- src/planning_cases.rt:32:30
 cast-number-3 : tie.Need-cast-number-3 Inv-loop μ-loop
 cast-number-3 c = search needs
 
--- src/planning_cases.rt:32:13
 number-requires-3 : tie.Need-number-requires-3 Inv-loop μ-loop
 number-requires-3 c κs = search needs
 
--- src/planning_cases.rt:33:28
 slice-aggregate-text-4 : tie.Need-slice-aggregate-text-4 Inv-loop μ-loop
 slice-aggregate-text-4 c = search needs
 
--- src/planning_cases.rt:33:13
 text-requires-4 : tie.Need-text-requires-4 Inv-loop μ-loop
 text-requires-4 c κs = search needs
 
--- src/planning_cases.rt:24:9
 add-i : tie.Need-add-i Inv-loop μ-loop
 add-i c = search needs
 
--- src/planning_cases.rt:24:5
 loop-less : tie.Need-loop-less Inv-loop μ-loop
 loop-less c = search needs
 
--- src/planning_cases.rt:24:5
 loop-again : tie.Need-loop-again Inv-loop μ-loop
 loop-again c = search needs
 
--- src/planning_cases.rt:23:1
 returns : tie.Need-returns Inv-loop μ-loop
 returns c = search needs
 

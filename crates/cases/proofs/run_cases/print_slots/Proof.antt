@@ -14,35 +14,27 @@ Inv-loop stolen now₀ k₀ k-end now k = k ≤ k-end
 abbrev μ-loop : tie.MeasureT-loop
 μ-loop stolen now₀ k₀ k-end now k = k-end - k
 
--- src/run_cases.rt:42:5
 loop-holds : tie.Need-loop-holds Inv-loop μ-loop
 loop-holds c = search needs
 
--- src/run_cases.rt:43:42
 shared-slice-read-slot : tie.Need-shared-slice-read-slot Inv-loop μ-loop
 shared-slice-read-slot c = search needs
 
--- src/run_cases.rt:43:13
 slot-requires : tie.Need-slot-requires Inv-loop μ-loop
 slot-requires c κs = search needs
 
--- src/run_cases.rt:46:9
 print-state-requires : tie.Need-print-state-requires Inv-loop μ-loop
 print-state-requires c κs = search needs
 
--- src/run_cases.rt:42:9
 add-k : tie.Need-add-k Inv-loop μ-loop
 add-k c = search needs
 
--- src/run_cases.rt:42:5
 loop-less : tie.Need-loop-less Inv-loop μ-loop
 loop-less c = search needs
 
--- src/run_cases.rt:42:5
 loop-again : tie.Need-loop-again Inv-loop μ-loop
 loop-again c = search needs
 
--- src/run_cases.rt:40:1
 returns : tie.Need-returns Inv-loop μ-loop
 returns c = search needs
 

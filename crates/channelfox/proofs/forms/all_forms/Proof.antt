@@ -15,35 +15,27 @@ Inv-loop form ok₀ i₀ ok i = Tested (form .rows) ok i
 abbrev μ-loop : tie.MeasureT-loop
 μ-loop form ok₀ i₀ ok i = 64 - i
 
--- src/forms.rt:140:5
 loop-holds : tie.Need-loop-holds Inv-loop μ-loop
 loop-holds c = tested-none (simp length-map at (c .good .0 .1 .1 .1 .1 .0 .1 .0 .1))
 
--- src/forms.rt:141:19
 mul-row : tie.Need-mul-row Inv-loop μ-loop
 mul-row c = search needs
 
--- src/forms.rt:141:19
 element-copy-out-row : tie.Need-element-copy-out-row Inv-loop μ-loop
 element-copy-out-row c = search needs
 
--- src/forms.rt:142:13
 is-form-requires : tie.Need-is-form-requires Inv-loop μ-loop
 is-form-requires c κs = search needs
 
--- src/forms.rt:140:9
 add-i : tie.Need-add-i Inv-loop μ-loop
 add-i c = search needs
 
--- src/forms.rt:140:5
 loop-less : tie.Need-loop-less Inv-loop μ-loop
 loop-less c = search needs
 
--- src/forms.rt:140:5
 loop-again : tie.Need-loop-again Inv-loop μ-loop
 loop-again c = tested-next _ _ (c .before .before .before .loop .inv) (c .before .before .loop-test .taken) (c .is-form .ensures)
 
--- src/forms.rt:136:1
 returns : tie.Need-returns Inv-loop μ-loop
 returns c = tested-all (c .before .loop .inv) (c .loop-test .left)
 

@@ -6,7 +6,6 @@ use Rattle.channelfox.proofs.forms.is_form.Tie as tie
 use Rattle.channelfox.proofs.forms.is_form.Reads as reads
 use Rattle.channelfox.proofs.forms.is_form.Lts as lts
 
--- src/forms.rt:96:1
 returns : tie.Need-returns
 unfolding isForm
 returns c = search needs

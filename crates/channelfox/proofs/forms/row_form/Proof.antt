@@ -9,19 +9,15 @@ use Rattle.channelfox.proofs.forms.mark.Reads as mark-reads
 use Rattle.channelfox.proofs.forms.stored_held.Reads as stored-held-reads
 use Rattle.channelfox.proofs.forms.stored_kind.Reads as stored-kind-reads
 
--- src/forms.rt:79:17
 mark-requires : tie.Need-mark-requires
 mark-requires c κs = search needs
 
--- src/forms.rt:80:17
 stored-kind-requires : tie.Need-stored-kind-requires
 stored-kind-requires c κs = search needs
 
--- src/forms.rt:81:15
 stored-held-requires : tie.Need-stored-held-requires
 stored-held-requires c κs = search needs
 
--- src/forms.rt:69:1
 returns : tie.Need-returns
 unfolding rowForm
 returns c = rw (c .stored-held .ensures, c .before .stored-kind .ensures, c .before .before .mark .ensures)

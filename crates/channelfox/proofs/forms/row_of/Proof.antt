@@ -8,11 +8,9 @@ use Rattle.channelfox.proofs.forms.row_of.Reads as reads
 use Rattle.channelfox.proofs.forms.row_of.Lts as lts
 use Rattle.channelfox.proofs.forms.stored_of.Reads as stored-of-reads
 
--- src/forms.rt:83:9
 stored-of-requires : tie.Need-stored-of-requires
 stored-of-requires c κs = search needs
 
--- src/forms.rt:79:1
 returns : tie.Need-returns
 unfolding rowOf
 returns c = rw (c .before .stored-of .ensures)

@@ -17,51 +17,39 @@ Inv-loop run rows₀ i₀ rows i = Done rowForm (run .rows) rows i
 abbrev μ-loop : tie.MeasureT-loop
 μ-loop run rows₀ i₀ rows i = 64 - i
 
--- src/forms.rt:105:17
 element-copy-out-first : tie.Need-element-copy-out-first Inv-loop μ-loop
 element-copy-out-first c = search needs
 
--- src/forms.rt:106:9
 row-form-requires : tie.Need-row-form-requires Inv-loop μ-loop
 row-form-requires c κs = search needs
 
--- src/forms.rt:108:5
 loop-holds : tie.Need-loop-holds Inv-loop μ-loop
 loop-holds c = done-none (simp length-map at (c .before .before .good .0 .1 .1 .1 .1 .0 .1 .0 .1)) refl
 
--- src/forms.rt:109:19
 mul-row : tie.Need-mul-row Inv-loop μ-loop
 mul-row c = search needs
 
--- src/forms.rt:109:19
 element-copy-out-row : tie.Need-element-copy-out-row Inv-loop μ-loop
 element-copy-out-row c = search needs
 
--- src/forms.rt:110:19
 row-form-requires-2 : tie.Need-row-form-requires-2 Inv-loop μ-loop
 row-form-requires-2 c κs = search needs
 
--- src/forms.rt:110:9
 mul-rows : tie.Need-mul-rows Inv-loop μ-loop
 mul-rows c = search needs
 
--- src/forms.rt:110:9
 array-set-from-rows : tie.Need-array-set-from-rows Inv-loop μ-loop
 array-set-from-rows c = search needs
 
--- src/forms.rt:108:9
 add-i : tie.Need-add-i Inv-loop μ-loop
 add-i c = search needs
 
--- src/forms.rt:108:5
 loop-less : tie.Need-loop-less Inv-loop μ-loop
 loop-less c = search needs
 
--- src/forms.rt:108:5
 loop-again : tie.Need-loop-again Inv-loop μ-loop
 loop-again c = done-next _ _ (c .before .before .before .loop .inv) (c .before .before .loop-test .taken) (c .row-form2 .ensures)
 
--- src/forms.rt:102:1
 returns : tie.Need-returns Inv-loop μ-loop
 returns c = rw (done-all (c .before .loop .inv) (c .loop-test .left))
 

@@ -6,15 +6,12 @@ use Rattle.channelfox.proofs.forms.stored_of.Tie as tie
 use Rattle.channelfox.proofs.forms.stored_of.Reads as reads
 use Rattle.channelfox.proofs.forms.stored_of.Lts as lts
 
--- src/forms.rt:53:9
 returns : tie.Need-returns
 returns c = simp (eq-eqb _ _ (c .if1 .taken))
 
--- src/forms.rt:56:9
 returns-2 : tie.Need-returns-2
 returns-2 c = simp (ne-eqb _ _ (c .before .if1 .left), eq-eqb _ _ (c .if2 .taken))
 
--- src/forms.rt:49:1
 returns-3 : tie.Need-returns-3
 returns-3 c = simp (ne-eqb _ _ (c .before .if1 .left), ne-eqb _ _ (c .if2 .left))
 

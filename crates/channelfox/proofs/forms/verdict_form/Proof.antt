@@ -6,23 +6,18 @@ use Rattle.channelfox.proofs.forms.verdict_form.Reads as reads
 use Rattle.channelfox.proofs.forms.verdict_form.Lts as lts
 use Rattle.rules.proofs.refusal_number.Reads as refusal-number-reads
 
--- src/forms.rt:18:30
 enum-told : tie.Need-enum-told
 enum-told c = search needs
 
--- src/forms.rt:22:26
 enum-known-verdict : tie.Need-enum-known-verdict
 enum-known-verdict c = search needs
 
--- src/forms.rt:23:21
 refusal-number-requires : tie.Need-refusal-number-requires
 refusal-number-requires c κs = search needs
 
--- src/forms.rt:14:1
 returns : tie.Need-returns
 returns c = simp (c .enum-told .given .1)
 
--- src/forms.rt:14:1
 returns-2 : tie.Need-returns-2
 returns-2 c = rw (c .refusal-number .ensures, c .before .before .verdict .given .1)
 

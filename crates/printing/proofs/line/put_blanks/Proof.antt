@@ -13,27 +13,21 @@ Inv-loop line₀ at count to₀ i₀ line to i = i ≤ count
 abbrev μ-loop : tie.MeasureT-loop
 μ-loop line₀ at count to₀ i₀ line to i = count - i
 
--- src/line.rt:26:5
 loop-holds : tie.Need-loop-holds Inv-loop μ-loop
 loop-holds c = search needs
 
--- src/line.rt:27:9
 put-requires : tie.Need-put-requires Inv-loop μ-loop
 put-requires c κs = search needs
 
--- src/line.rt:26:9
 add-i : tie.Need-add-i Inv-loop μ-loop
 add-i c = search needs
 
--- src/line.rt:26:5
 loop-less : tie.Need-loop-less Inv-loop μ-loop
 loop-less c = search needs
 
--- src/line.rt:26:5
 loop-again : tie.Need-loop-again Inv-loop μ-loop
 loop-again c = search needs
 
--- src/line.rt:24:1
 returns : tie.Need-returns Inv-loop μ-loop
 returns c = search needs
 

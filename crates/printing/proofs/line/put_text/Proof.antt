@@ -13,31 +13,24 @@ Inv-loop line₀ at text to₀ i₀ i-end line to i = i ≤ i-end
 abbrev μ-loop : tie.MeasureT-loop
 μ-loop line₀ at text to₀ i₀ i-end line to i = i-end - i
 
--- src/line.rt:17:5
 loop-holds : tie.Need-loop-holds Inv-loop μ-loop
 loop-holds c = search needs
 
--- src/line.rt:18:28
 shared-slice-read-put : tie.Need-shared-slice-read-put Inv-loop μ-loop
 shared-slice-read-put c = search needs
 
--- src/line.rt:18:9
 put-requires : tie.Need-put-requires Inv-loop μ-loop
 put-requires c κs = search needs
 
--- src/line.rt:17:9
 add-i : tie.Need-add-i Inv-loop μ-loop
 add-i c = search needs
 
--- src/line.rt:17:5
 loop-less : tie.Need-loop-less Inv-loop μ-loop
 loop-less c = search needs
 
--- src/line.rt:17:5
 loop-again : tie.Need-loop-again Inv-loop μ-loop
 loop-again c = search needs
 
--- src/line.rt:15:1
 returns : tie.Need-returns Inv-loop μ-loop
 returns c = search needs
 

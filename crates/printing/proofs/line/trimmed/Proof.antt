@@ -12,31 +12,24 @@ Inv-loop line at to₀ i₀ to i = i ≤ 160
 abbrev μ-loop : tie.MeasureT-loop
 μ-loop line at to₀ i₀ to i = 160 - i
 
--- src/line.rt:60:5
 loop-holds : tie.Need-loop-holds Inv-loop μ-loop
 loop-holds c = search needs
 
--- src/line.rt:61:24
 element-copy-out-if1 : tie.Need-element-copy-out-if1 Inv-loop μ-loop
 element-copy-out-if1 c = search needs
 
--- src/line.rt:62:18
 add-to : tie.Need-add-to Inv-loop μ-loop
 add-to c = search needs
 
--- src/line.rt:60:9
 add-i : tie.Need-add-i Inv-loop μ-loop
 add-i c = search needs
 
--- src/line.rt:60:5
 loop-less : tie.Need-loop-less Inv-loop μ-loop
 loop-less c = search needs
 
--- src/line.rt:60:5
 loop-again : tie.Need-loop-again Inv-loop μ-loop
 loop-again c = search needs
 
--- src/line.rt:58:1
 returns : tie.Need-returns Inv-loop μ-loop
 returns c = search needs
 

@@ -9,19 +9,15 @@ use Rattle.printing.proofs.line.write.Reads as reads
 use Rattle.printing.proofs.line.write.Lts as lts
 use Rattle.printing.proofs.text.Reads as text-reads
 
--- src/line.rt:53:24
 slice-aggregate-text : tie.Need-slice-aggregate-text
 slice-aggregate-text c = sym (length-take-le (c .before .before .before .args .to) (c .before .before .before .args .bytes .now) (omega arith))
 
--- src/line.rt:53:9
 text-requires : tie.Need-text-requires
 text-requires c κs = search needs
 
--- src/line.rt:51:1
 returns : tie.Need-returns
 returns c = search needs
 
--- src/line.rt:51:1
 returns-2 : tie.Need-returns-2
 returns-2 c = search needs
 

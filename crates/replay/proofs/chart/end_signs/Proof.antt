@@ -15,35 +15,27 @@ Inv-loop line₀ signs row width at₀ c₀ line at c = c ≤ 100
 abbrev μ-loop : tie.MeasureT-loop
 μ-loop line₀ signs row width at₀ c₀ line at c = 100 - c
 
--- src/chart.rt:123:5
 loop-holds : tie.Need-loop-holds Inv-loop μ-loop
 loop-holds c = search needs
 
--- src/chart.rt:125:32
 sign-at-requires : tie.Need-sign-at-requires Inv-loop μ-loop
 sign-at-requires c κs = search needs
 
--- src/chart.rt:125:13
 put-requires : tie.Need-put-requires Inv-loop μ-loop
 put-requires c κs = search needs
 
--- src/chart.rt:123:9
 add-c : tie.Need-add-c Inv-loop μ-loop
 add-c c = search needs
 
--- src/chart.rt:123:5
 loop-less : tie.Need-loop-less Inv-loop μ-loop
 loop-less c = search needs
 
--- src/chart.rt:123:5
 loop-again : tie.Need-loop-again Inv-loop μ-loop
 loop-again c = search needs
 
--- src/chart.rt:128:5
 end-requires : tie.Need-end-requires Inv-loop μ-loop
 end-requires c κs = search needs
 
--- src/chart.rt:121:1
 returns : tie.Need-returns Inv-loop μ-loop
 returns c = search needs
 

@@ -15,43 +15,33 @@ Inv-loop marks width line₀ at₀ c₀ line at c = c ≤ 100
 abbrev μ-loop : tie.MeasureT-loop
 μ-loop marks width line₀ at₀ c₀ line at c = 100 - c
 
--- src/chart.rt:111:41
 slice-aggregate-put-text : tie.Need-slice-aggregate-put-text Inv-loop μ-loop
 slice-aggregate-put-text c = search needs
 
--- src/chart.rt:111:9
 put-text-requires : tie.Need-put-text-requires Inv-loop μ-loop
 put-text-requires c κs = search needs
 
--- src/chart.rt:112:5
 loop-holds : tie.Need-loop-holds Inv-loop μ-loop
 loop-holds c = search needs
 
--- src/chart.rt:114:37
 element-copy-out-put : tie.Need-element-copy-out-put Inv-loop μ-loop
 element-copy-out-put c = search needs
 
--- src/chart.rt:114:13
 put-requires : tie.Need-put-requires Inv-loop μ-loop
 put-requires c κs = search needs
 
--- src/chart.rt:112:9
 add-c : tie.Need-add-c Inv-loop μ-loop
 add-c c = search needs
 
--- src/chart.rt:112:5
 loop-less : tie.Need-loop-less Inv-loop μ-loop
 loop-less c = search needs
 
--- src/chart.rt:112:5
 loop-again : tie.Need-loop-again Inv-loop μ-loop
 loop-again c = search needs
 
--- src/chart.rt:117:5
 end-requires : tie.Need-end-requires Inv-loop μ-loop
 end-requires c κs = search needs
 
--- src/chart.rt:109:1
 returns : tie.Need-returns Inv-loop μ-loop
 returns c = search needs
 

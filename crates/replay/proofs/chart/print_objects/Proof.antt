@@ -13,35 +13,27 @@ Inv-loop jobs values width run i₀ i = i ≤ 64
 abbrev μ-loop : tie.MeasureT-loop
 μ-loop jobs values width run i₀ i = 64 - i
 
--- src/chart.rt:141:5
 loop-holds : tie.Need-loop-holds Inv-loop μ-loop
 loop-holds c = search needs
 
--- src/chart.rt:143:23
 mul-row : tie.Need-mul-row Inv-loop μ-loop
 mul-row c = search needs
 
--- src/chart.rt:143:23
 element-copy-out-row : tie.Need-element-copy-out-row Inv-loop μ-loop
 element-copy-out-row c = search needs
 
--- src/chart.rt:144:13
 print-object-requires : tie.Need-print-object-requires Inv-loop μ-loop
 print-object-requires c κs = search needs
 
--- src/chart.rt:141:9
 add-i : tie.Need-add-i Inv-loop μ-loop
 add-i c = search needs
 
--- src/chart.rt:141:5
 loop-less : tie.Need-loop-less Inv-loop μ-loop
 loop-less c = search needs
 
--- src/chart.rt:141:5
 loop-again : tie.Need-loop-again Inv-loop μ-loop
 loop-again c = search needs
 
--- src/chart.rt:140:1
 returns : tie.Need-returns Inv-loop μ-loop
 returns c = search needs
 

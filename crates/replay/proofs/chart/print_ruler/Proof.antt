@@ -16,47 +16,36 @@ Inv-loop first width line₀ last₀ c₀ line last c = c ≤ 100
 abbrev μ-loop : tie.MeasureT-loop
 μ-loop first width line₀ last₀ c₀ line last c = 100 - c
 
--- src/chart.rt:96:43
 slice-aggregate-put-text : tie.Need-slice-aggregate-put-text Inv-loop μ-loop
 slice-aggregate-put-text c = search needs
 
--- src/chart.rt:96:9
 put-text-requires : tie.Need-put-text-requires Inv-loop μ-loop
 put-text-requires c κs = search needs
 
--- src/chart.rt:97:5
 loop-holds : tie.Need-loop-holds Inv-loop μ-loop
 loop-holds c = search needs
 
--- src/chart.rt:99:42
 add-put-mark : tie.Need-add-put-mark Inv-loop μ-loop
 add-put-mark c = search needs
 
--- src/chart.rt:99:49
 wrapping-add-usize-requires : tie.Need-wrapping-add-usize-requires Inv-loop μ-loop
 wrapping-add-usize-requires c κs = search needs
 
--- src/chart.rt:99:17
 put-mark-requires : tie.Need-put-mark-requires Inv-loop μ-loop
 put-mark-requires c κs = search needs
 
--- src/chart.rt:97:9
 add-c : tie.Need-add-c Inv-loop μ-loop
 add-c c = search needs
 
--- src/chart.rt:97:5
 loop-less : tie.Need-loop-less Inv-loop μ-loop
 loop-less c = search needs
 
--- src/chart.rt:97:5
 loop-again : tie.Need-loop-again Inv-loop μ-loop
 loop-again c = search needs
 
--- src/chart.rt:105:5
 end-requires : tie.Need-end-requires Inv-loop μ-loop
 end-requires c κs = search needs
 
--- src/chart.rt:94:1
 returns : tie.Need-returns Inv-loop μ-loop
 returns c = search needs
 

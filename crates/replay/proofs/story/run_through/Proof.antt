@@ -23,59 +23,45 @@ abbrev μ-loop : tie.MeasureT-loop
 μ-loop slots pattern jobs₀ values₀ marks₀ first now₀ all₀ stolen₀ at₀ k₀ jobs values marks now all stolen at k =
     slots - k
 
--- src/story.rt:51:9
 first-drawn-requires : tie.Need-first-drawn-requires Inv-loop μ-loop
 first-drawn-requires c κs = search needs
 
--- src/story.rt:53:9
 no-tallies-requires : tie.Need-no-tallies-requires Inv-loop μ-loop
 no-tallies-requires c κs = search needs
 
--- src/story.rt:56:5
 loop-holds : tie.Need-loop-holds Inv-loop μ-loop
 loop-holds c = search needs
 
--- src/story.rt:57:13
 is-stolen-requires : tie.Need-is-stolen-requires Inv-loop μ-loop
 is-stolen-requires c κs = search needs
 
--- src/story.rt:58:13
 slot-requires : tie.Need-slot-requires Inv-loop μ-loop
 slot-requires c κs = search needs
 
--- src/story.rt:61:13
 mark-requires : tie.Need-mark-requires Inv-loop μ-loop
 mark-requires c κs = search needs
 
--- src/story.rt:62:13
 draw-requires : tie.Need-draw-requires Inv-loop μ-loop
 draw-requires c κs = search needs
 
--- src/story.rt:64:13
 tallied-requires : tie.Need-tallied-requires Inv-loop μ-loop
 tallied-requires c κs = search needs
 
--- src/story.rt:67:9
 counted-requires : tie.Need-counted-requires Inv-loop μ-loop
 counted-requires c κs = search needs
 
--- src/story.rt:68:9
 place-after-requires : tie.Need-place-after-requires Inv-loop μ-loop
 place-after-requires c κs = search needs
 
--- src/story.rt:56:9
 add-k : tie.Need-add-k Inv-loop μ-loop
 add-k c = search needs
 
--- src/story.rt:56:5
 loop-less : tie.Need-loop-less Inv-loop μ-loop
 loop-less c = search needs
 
--- src/story.rt:56:5
 loop-again : tie.Need-loop-again Inv-loop μ-loop
 loop-again c = search needs
 
--- src/story.rt:43:1
 returns : tie.Need-returns Inv-loop μ-loop
 returns c = search needs
 

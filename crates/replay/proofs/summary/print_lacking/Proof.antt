@@ -13,43 +13,33 @@ Inv-loop last run rows first₀ i₀ first i = i ≤ 64
 abbrev μ-loop : tie.MeasureT-loop
 μ-loop last run rows first₀ i₀ first i = 64 - i
 
--- src/summary.rt:82:5
 loop-holds : tie.Need-loop-holds Inv-loop μ-loop
 loop-holds c = search needs
 
--- src/summary.rt:83:31
 mul-if1 : tie.Need-mul-if1 Inv-loop μ-loop
 mul-if1 c = search needs
 
--- src/summary.rt:83:31
 element-copy-out-if1 : tie.Need-element-copy-out-if1 Inv-loop μ-loop
 element-copy-out-if1 c = search needs
 
--- src/summary.rt:84:23
 mul-row : tie.Need-mul-row Inv-loop μ-loop
 mul-row c = search needs
 
--- src/summary.rt:84:23
 element-copy-out-row : tie.Need-element-copy-out-row Inv-loop μ-loop
 element-copy-out-row c = search needs
 
--- src/summary.rt:85:13
 print-id-requires : tie.Need-print-id-requires Inv-loop μ-loop
 print-id-requires c κs = search needs
 
--- src/summary.rt:82:9
 add-i : tie.Need-add-i Inv-loop μ-loop
 add-i c = search needs
 
--- src/summary.rt:82:5
 loop-less : tie.Need-loop-less Inv-loop μ-loop
 loop-less c = search needs
 
--- src/summary.rt:82:5
 loop-again : tie.Need-loop-again Inv-loop μ-loop
 loop-again c = search needs
 
--- src/summary.rt:79:1
 returns : tie.Need-returns Inv-loop μ-loop
 returns c = search needs
 

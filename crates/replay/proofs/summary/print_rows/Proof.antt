@@ -14,51 +14,39 @@ Inv-loop run rows i₀ i = i ≤ 64
 abbrev μ-loop : tie.MeasureT-loop
 μ-loop run rows i₀ i = 64 - i
 
--- src/summary.rt:57:20
 slice-aggregate-text : tie.Need-slice-aggregate-text Inv-loop μ-loop
 slice-aggregate-text c = search needs
 
--- src/summary.rt:57:5
 text-requires : tie.Need-text-requires Inv-loop μ-loop
 text-requires c κs = search needs
 
--- src/summary.rt:59:5
 loop-holds : tie.Need-loop-holds Inv-loop μ-loop
 loop-holds c = search needs
 
--- src/summary.rt:61:23
 mul-row : tie.Need-mul-row Inv-loop μ-loop
 mul-row c = search needs
 
--- src/summary.rt:61:23
 element-copy-out-row : tie.Need-element-copy-out-row Inv-loop μ-loop
 element-copy-out-row c = search needs
 
--- src/summary.rt:62:25
 mul-tally : tie.Need-mul-tally Inv-loop μ-loop
 mul-tally c = search needs
 
--- src/summary.rt:62:25
 array-copy-out-tally : tie.Need-array-copy-out-tally Inv-loop μ-loop
 array-copy-out-tally c = search needs
 
--- src/summary.rt:63:13
 print-row-requires : tie.Need-print-row-requires Inv-loop μ-loop
 print-row-requires c κs = search needs
 
--- src/summary.rt:59:9
 add-i : tie.Need-add-i Inv-loop μ-loop
 add-i c = search needs
 
--- src/summary.rt:59:5
 loop-less : tie.Need-loop-less Inv-loop μ-loop
 loop-less c = search needs
 
--- src/summary.rt:59:5
 loop-again : tie.Need-loop-again Inv-loop μ-loop
 loop-again c = search needs
 
--- src/summary.rt:56:1
 returns : tie.Need-returns Inv-loop μ-loop
 returns c = search needs
 

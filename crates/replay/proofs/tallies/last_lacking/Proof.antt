@@ -13,35 +13,27 @@ Inv-loop count rows last₀ i₀ last i = i ≤ 64
 abbrev μ-loop : tie.MeasureT-loop
 μ-loop count rows last₀ i₀ last i = 64 - i
 
--- src/tallies.rt:147:5
 loop-holds : tie.Need-loop-holds Inv-loop μ-loop
 loop-holds c = search needs
 
--- src/tallies.rt:149:33
 mul-larger : tie.Need-mul-larger Inv-loop μ-loop
 mul-larger c = search needs
 
--- src/tallies.rt:149:33
 element-copy-out-larger : tie.Need-element-copy-out-larger Inv-loop μ-loop
 element-copy-out-larger c = search needs
 
--- src/tallies.rt:149:13
 larger-requires : tie.Need-larger-requires Inv-loop μ-loop
 larger-requires c κs = search needs
 
--- src/tallies.rt:147:9
 add-i : tie.Need-add-i Inv-loop μ-loop
 add-i c = search needs
 
--- src/tallies.rt:147:5
 loop-less : tie.Need-loop-less Inv-loop μ-loop
 loop-less c = search needs
 
--- src/tallies.rt:147:5
 loop-again : tie.Need-loop-again Inv-loop μ-loop
 loop-again c = search needs
 
--- src/tallies.rt:144:1
 returns : tie.Need-returns Inv-loop μ-loop
 returns c = search needs
 

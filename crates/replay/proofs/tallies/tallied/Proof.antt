@@ -13,59 +13,45 @@ Inv-loop before after rows₀ i₀ rows i = i ≤ 64
 abbrev μ-loop : tie.MeasureT-loop
 μ-loop before after rows₀ i₀ rows i = 64 - i
 
--- src/tallies.rt:131:5
 loop-holds : tie.Need-loop-holds Inv-loop μ-loop
 loop-holds c = search needs
 
--- src/tallies.rt:133:23
 mul-old : tie.Need-mul-old Inv-loop μ-loop
 mul-old c = search needs
 
--- src/tallies.rt:133:23
 array-copy-out-old : tie.Need-array-copy-out-old Inv-loop μ-loop
 array-copy-out-old c = search needs
 
--- src/tallies.rt:134:23
 mul-was : tie.Need-mul-was Inv-loop μ-loop
 mul-was c = search needs
 
--- src/tallies.rt:134:23
 element-copy-out-was : tie.Need-element-copy-out-was Inv-loop μ-loop
 element-copy-out-was c = search needs
 
--- src/tallies.rt:135:22
 mul-is : tie.Need-mul-is Inv-loop μ-loop
 mul-is c = search needs
 
--- src/tallies.rt:135:22
 element-copy-out-is : tie.Need-element-copy-out-is Inv-loop μ-loop
 element-copy-out-is c = search needs
 
--- src/tallies.rt:136:17
 tallied-row-requires : tie.Need-tallied-row-requires Inv-loop μ-loop
 tallied-row-requires c κs = search needs
 
--- src/tallies.rt:137:13
 mul-rows : tie.Need-mul-rows Inv-loop μ-loop
 mul-rows c = search needs
 
--- src/tallies.rt:137:13
 array-set-from-rows : tie.Need-array-set-from-rows Inv-loop μ-loop
 array-set-from-rows c = search needs
 
--- src/tallies.rt:131:9
 add-i : tie.Need-add-i Inv-loop μ-loop
 add-i c = search needs
 
--- src/tallies.rt:131:5
 loop-less : tie.Need-loop-less Inv-loop μ-loop
 loop-less c = search needs
 
--- src/tallies.rt:131:5
 loop-again : tie.Need-loop-again Inv-loop μ-loop
 loop-again c = search needs
 
--- src/tallies.rt:129:1
 returns : tie.Need-returns Inv-loop μ-loop
 returns c = search needs
 

@@ -6,17 +6,14 @@ use Rattle.replay.proofs.tallies.work_at_hand.Tie as tie
 use Rattle.replay.proofs.tallies.work_at_hand.Reads as reads
 use Rattle.replay.proofs.tallies.work_at_hand.Lts as lts
 
--- src/tallies.rt:40:13
 returns : tie.Need-returns
 unfolding releasedOf
 returns c = simp (eq-eqb _ _ (c .before .before .if1 .taken), eq-eqb _ _ (c .if2 .taken))
 
--- src/tallies.rt:35:1
 returns-2 : tie.Need-returns-2
 unfolding releasedOf
 returns-2 c = simp (eq-eqb _ _ (c .before .before .if1 .taken), ne-eqb _ _ (c .if2 .left))
 
--- src/tallies.rt:35:1
 returns-3 : tie.Need-returns-3
 unfolding releasedOf
 returns-3 c = simp (ne-eqb _ _ (c .if1 .left))

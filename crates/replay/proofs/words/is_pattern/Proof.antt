@@ -12,31 +12,24 @@ Inv-loop word good₀ i₀ i-end good i = i ≤ i-end
 abbrev μ-loop : tie.MeasureT-loop
 μ-loop word good₀ i₀ i-end good i = i-end - i
 
--- src/words.rt:130:5
 loop-holds : tie.Need-loop-holds Inv-loop μ-loop
 loop-holds c = search needs
 
--- src/words.rt:131:25
 shared-slice-read-good : tie.Need-shared-slice-read-good Inv-loop μ-loop
 shared-slice-read-good c = search needs
 
--- src/words.rt:131:45
 shared-slice-read-good-2 : tie.Need-shared-slice-read-good-2 Inv-loop μ-loop
 shared-slice-read-good-2 c = search needs
 
--- src/words.rt:130:9
 add-i : tie.Need-add-i Inv-loop μ-loop
 add-i c = search needs
 
--- src/words.rt:130:5
 loop-less : tie.Need-loop-less Inv-loop μ-loop
 loop-less c = search needs
 
--- src/words.rt:130:5
 loop-again : tie.Need-loop-again Inv-loop μ-loop
 loop-again c = search needs
 
--- src/words.rt:128:1
 returns : tie.Need-returns Inv-loop μ-loop
 returns c = search needs
 

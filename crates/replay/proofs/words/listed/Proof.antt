@@ -15,39 +15,30 @@ Inv-loop bytes list₀ i₀ i-end list i = i ≤ i-end
 abbrev μ-loop : tie.MeasureT-loop
 μ-loop bytes list₀ i₀ i-end list i = i-end - i
 
--- src/words.rt:89:9
 no-numbers-requires : tie.Need-no-numbers-requires Inv-loop μ-loop
 no-numbers-requires c κs = search needs
 
--- src/words.rt:90:5
 loop-holds : tie.Need-loop-holds Inv-loop μ-loop
 loop-holds c = search needs
 
--- src/words.rt:91:35
 shared-slice-read-extended : tie.Need-shared-slice-read-extended Inv-loop μ-loop
 shared-slice-read-extended c = search needs
 
--- src/words.rt:91:13
 extended-requires : tie.Need-extended-requires Inv-loop μ-loop
 extended-requires c κs = search needs
 
--- src/words.rt:90:9
 add-i : tie.Need-add-i Inv-loop μ-loop
 add-i c = search needs
 
--- src/words.rt:90:5
 loop-less : tie.Need-loop-less Inv-loop μ-loop
 loop-less c = search needs
 
--- src/words.rt:90:5
 loop-again : tie.Need-loop-again Inv-loop μ-loop
 loop-again c = search needs
 
--- src/words.rt:94:5
 closed-requires : tie.Need-closed-requires Inv-loop μ-loop
 closed-requires c κs = search needs
 
--- src/words.rt:88:1
 returns : tie.Need-returns Inv-loop μ-loop
 returns c = search needs
 

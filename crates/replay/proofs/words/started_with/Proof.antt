@@ -9,23 +9,18 @@ use Rattle.replay.proofs.words.started_with.Reads as reads
 use Rattle.replay.proofs.words.started_with.Lts as lts
 use Rattle.running.proofs.start.Reads as start-reads
 
--- src/words.rt:149:34
 slice-aggregate-start : tie.Need-slice-aggregate-start
 slice-aggregate-start c = sym (length-take-le (c .before .before .before .args .count) (c .before .before .before .args .firsts .now) (omega arith))
 
--- src/words.rt:149:9
 start-requires : tie.Need-start-requires
 start-requires c κs = search needs
 
--- src/words.rt:151:9
 start-requires-2 : tie.Need-start-requires-2
 start-requires-2 c κs = search needs
 
--- src/words.rt:147:1
 returns : tie.Need-returns
 returns c = search needs
 
--- src/words.rt:147:1
 returns-2 : tie.Need-returns-2
 returns-2 c = search needs
 

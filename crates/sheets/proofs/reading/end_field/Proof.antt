@@ -8,35 +8,28 @@ use Rattle.sheets.proofs.reading.end_field.Tie as tie
 use Rattle.sheets.proofs.reading.end_field.Reads as reads
 use Rattle.sheets.proofs.reading.end_field.Lts as lts
 
--- src/reading.rt:64:9
 returns : tie.Need-returns
 returns c = let a = c .before .args in too-large (a .bytes .now) (a .at) (a .limit) (a .stop) (a .value) (c .if1 .taken)
 
--- src/reading.rt:67:9
 returns-2 : tie.Need-returns-2
 returns-2 c =
     let a = c .before .before .args in
     in-limit (a .bytes .now) (a .at) (a .limit) (a .stop) (a .value) (c .before .if1 .left) ∙ stopped-end (a .bytes .now) (a .at) (a .stop) (a .value) (c .if2 .taken)
 
--- src/reading.rt:69:8
 shared-slice-read-if3 : tie.Need-shared-slice-read-if3
 shared-slice-read-if3 c = search needs
 
--- src/reading.rt:70:9
 returns-3 : tie.Need-returns-3
 returns-3 c =
     let a = c .before .before .before .before .args in
     in-limit (a .bytes .now) (a .at) (a .limit) (a .stop) (a .value) (c .before .before .before .if1 .left) ∙ stopped-other (a .bytes .now) (a .at) (a .stop) (a .value) (c .before .before .if2 .left) (c .if3 .taken)
 
--- src/reading.rt:72:18
 cast-t11 : tie.Need-cast-t11
 cast-t11 c = search needs
 
--- src/reading.rt:72:32
 add-t8 : tie.Need-add-t8
 add-t8 c = search needs
 
--- src/reading.rt:59:1
 returns-4 : tie.Need-returns-4
 returns-4 c =
     let a = c .before .before .before .before .args in

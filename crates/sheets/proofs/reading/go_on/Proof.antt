@@ -17,51 +17,39 @@ Inv-loop bytes at value limit size most v₀ next₀ v next = GoingOn bytes at v
 abbrev μ-loop : tie.MeasureT-loop
 μ-loop bytes at value limit size most v₀ next₀ v next = length bytes - next
 
--- src/reading.rt:41:5
 loop-holds : tie.Need-loop-holds Inv-loop μ-loop
 loop-holds c = record { onwards = omega arith; within = c .pre; state = refl }
 
--- src/reading.rt:42:17
 shared-slice-read-c : tie.Need-shared-slice-read-c Inv-loop μ-loop
 shared-slice-read-c c = search needs
 
--- src/reading.rt:52:13
 mul-v : tie.Need-mul-v Inv-loop μ-loop
 mul-v c = search needs
 
--- src/reading.rt:52:22
 cast-v : tie.Need-cast-v Inv-loop μ-loop
 cast-v c = search needs
 
--- src/reading.rt:52:13
 add-v : tie.Need-add-v Inv-loop μ-loop
 add-v c = search needs
 
--- src/reading.rt:53:9
 add-next : tie.Need-add-next Inv-loop μ-loop
 add-next c = search needs
 
--- src/reading.rt:41:5
 loop-less : tie.Need-loop-less Inv-loop μ-loop
 loop-less c = search needs
 
--- src/reading.rt:41:5
 loop-again : tie.Need-loop-again Inv-loop μ-loop
 loop-again c = goes-next (c .before .before .before .before .before .loop .inv) (c .before .before .before .before .loop-test .taken) (c .before .before .if1 .left) (c .before .if2 .left)
 
--- src/reading.rt:33:1
 returns : tie.Need-returns Inv-loop μ-loop
 returns c = let l = c .before .loop in went-whole (l .inv) (c .before .before .args .limit) (number-ends (c .before .before .args .bytes .now) (l .next) (l .v) (c .loop-test .left))
 
--- src/reading.rt:33:1
 returns-2 : tie.Need-returns-2 Inv-loop μ-loop
 returns-2 c = let l = c .before .before .before .loop in went-whole (l .inv) (c .before .before .before .before .args .limit) (number-stops (c .before .before .before .before .args .bytes .now) (l .next) (l .v) (c .before .before .loop-test .taken) (digit-below _ (c .if1 .taken)))
 
--- src/reading.rt:33:1
 returns-3 : tie.Need-returns-3 Inv-loop μ-loop
 returns-3 c = let l = c .before .before .before .before .loop in went-whole (l .inv) (c .before .before .before .before .before .args .limit) (number-stops (c .before .before .before .before .before .args .bytes .now) (l .next) (l .v) (c .before .before .before .loop-test .taken) (digit-above _ (c .if2 .taken)))
 
--- src/reading.rt:33:1
 returns-4 : tie.Need-returns-4 Inv-loop μ-loop
 returns-4 c = went-far (c .before .before .before .before .before .loop .inv) (c .before .before .before .before .before .before .args .limit) (c .if3 .taken)
 

@@ -10,19 +10,15 @@ use Rattle.sheets.proofs.reading.import.Lts as lts
 use Rattle.rules.proofs.empty_table.Reads as empty-table-reads
 use Rattle.sheets.proofs.reading.read_lines.Reads as read-lines-reads
 
--- src/reading.rt:178:20
 empty-table-requires : tie.Need-empty-table-requires
 empty-table-requires c κs = search needs
 
--- src/reading.rt:176:9
 returns : tie.Need-returns
 returns c = rw (c .empty-table .ensures, lt-ltb 4096 (length (c .before .before .before .args .bytes .now)) (c .before .if1 .taken))
 
--- src/reading.rt:181:5
 read-lines-requires : tie.Need-read-lines-requires
 read-lines-requires c κs = search needs
 
--- src/reading.rt:172:1
 returns-2 : tie.Need-returns-2
 returns-2 c = c .read-lines .ensures ∙ rw (le-ltb 4096 (length (c .before .before .before .args .bytes .now)) (c .before .if1 .left))
 

@@ -12,63 +12,51 @@ use Rattle.sheets.proofs.reading.read_field.Lts as lts
 use Rattle.sheets.proofs.reading.end_field.Reads as end-field-reads
 use Rattle.sheets.proofs.reading.go_on.Reads as go-on-reads
 
--- src/reading.rt:81:9
 returns : tie.Need-returns
 returns c =
     let s = c .before .before .args .bytes .now in
     let a = c .before .before .args in
     no-field s (a .at) (a .limit) (a .stop) (c .if1 .taken)
 
--- src/reading.rt:83:13
 shared-slice-read-c : tie.Need-shared-slice-read-c
 shared-slice-read-c c = search needs
 
--- src/reading.rt:85:33
 add-end-field : tie.Need-add-end-field
 add-end-field c = search needs
 
--- src/reading.rt:85:9
 end-field-requires : tie.Need-end-field-requires
 end-field-requires c κs = search needs
 
--- src/reading.rt:85:9
 returns-2 : tie.Need-returns-2
 returns-2 c =
     let s = c .before .before .before .before .before .args .bytes .now in
     let a = c .before .before .before .before .before .args in
     found-on s (a .at) (a .at + 1) (c .end-field .result) (zero-field s (a .at) (a .limit) (a .stop) (c .before .before .before .if1 .left) (c .before .if2 .taken)) (omega arith) (c .end-field .ensures)
 
--- src/reading.rt:88:9
 returns-3 : tie.Need-returns-3
 returns-3 c =
     let s = c .before .before .before .before .before .args .bytes .now in
     let a = c .before .before .before .before .before .args in
     no-number s (a .at) (a .limit) (a .stop) (c .before .before .before .if1 .left) (c .before .if2 .left) (digit-below _ (c .if3 .taken))
 
--- src/reading.rt:91:9
 returns-4 : tie.Need-returns-4
 returns-4 c =
     let s = c .before .before .before .before .before .before .args .bytes .now in
     let a = c .before .before .before .before .before .before .args in
     no-number s (a .at) (a .limit) (a .stop) (c .before .before .before .before .if1 .left) (c .before .before .if2 .left) (digit-above _ (c .if4 .taken))
 
--- src/reading.rt:93:31
 add-go-on : tie.Need-add-go-on
 add-go-on c = search needs
 
--- src/reading.rt:93:39
 cast-go-on : tie.Need-cast-go-on
 cast-go-on c = search needs
 
--- src/reading.rt:93:9
 go-on-requires : tie.Need-go-on-requires
 go-on-requires c κs = search needs
 
--- src/reading.rt:94:5
 end-field-requires-2 : tie.Need-end-field-requires-2
 end-field-requires-2 c κs = search needs
 
--- src/reading.rt:76:1
 returns-5 : tie.Need-returns-5
 returns-5 c =
     let s = c .before .before .before .before .before .before .before .before .args .bytes .now in

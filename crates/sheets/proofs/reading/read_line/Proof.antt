@@ -10,40 +10,32 @@ use Rattle.sheets.proofs.reading.read_line.Reads as reads
 use Rattle.sheets.proofs.reading.read_line.Lts as lts
 use Rattle.sheets.proofs.reading.read_field.Reads as read-field-reads
 
--- src/reading.rt:102:9
 read-field-requires : tie.Need-read-field-requires
 read-field-requires c κs = search needs
 
--- src/reading.rt:103:22
 enum-known-first : tie.Need-enum-known-first
 enum-known-first c = search needs
 
--- src/reading.rt:104:9
 enum-told : tie.Need-enum-told
 enum-told c = search needs
 
--- src/reading.rt:104:9
 returns : tie.Need-returns
 returns c =
     let s = c .before .before .before .before .args .bytes .now in
     let a = c .before .before .before .before .args in
     line-without-id s (a .at) (rw (c .enum-told .given .1) at (c .before .before .read-field .ensures))
 
--- src/reading.rt:106:9
 read-field-requires-2 : tie.Need-read-field-requires-2
 read-field-requires-2 c κs =
     let one = rw (c .before .first .given .1) at (c .before .before .before .read-field .ensures) in
     one .1 .1
 
--- src/reading.rt:107:22
 enum-known-middle : tie.Need-enum-known-middle
 enum-known-middle c = search needs
 
--- src/reading.rt:108:9
 enum-told-2 : tie.Need-enum-told-2
 enum-told-2 c = search needs
 
--- src/reading.rt:108:9
 returns-2 : tie.Need-returns-2
 returns-2 c =
     let s = c .before .before .before .before .before .before .before .before .args .bytes .now in
@@ -51,21 +43,17 @@ returns-2 c =
     let one = rw (c .before .before .before .before .first .given .1) at (c .before .before .before .before .before .before .read-field .ensures) in
     line-without-cost s (a .at) (one .0) (rw (c .enum-told2 .given .1) at (c .before .before .read-field2 .ensures))
 
--- src/reading.rt:110:9
 read-field-requires-3 : tie.Need-read-field-requires-3
 read-field-requires-3 c κs =
     let two = rw (c .before .middle .given .1) at (c .before .before .before .read-field2 .ensures) in
     two .1 .1
 
--- src/reading.rt:111:22
 enum-known-last : tie.Need-enum-known-last
 enum-known-last c = search needs
 
--- src/reading.rt:112:9
 enum-told-3 : tie.Need-enum-told-3
 enum-told-3 c = search needs
 
--- src/reading.rt:112:9
 returns-3 : tie.Need-returns-3
 returns-3 c =
     let s = c .before .before .before .before .before .before .before .before .before .before .before .before .args .bytes .now in
@@ -74,7 +62,6 @@ returns-3 c =
     let two = rw (c .before .before .before .before .middle .given .1) at (c .before .before .before .before .before .before .read-field2 .ensures) in
     line-without-validity s (a .at) (one .0) (two .0) (rw (c .enum-told3 .given .1) at (c .before .before .read-field3 .ensures))
 
--- src/reading.rt:115:9
 returns-4 : tie.Need-returns-4
 returns-4 c =
     let s = c .before .before .before .before .before .before .before .before .before .before .before .before .before .before .args .bytes .now in
@@ -84,11 +71,9 @@ returns-4 c =
     let three = rw (c .before .before .last .given .1) at (c .before .before .before .before .read-field3 .ensures) in
     line-short s (a .at) (one .0) (two .0) (c .before .before .last .given .0 .1 .0) (three .0) (c .if1 .taken)
 
--- src/reading.rt:117:8
 shared-slice-read-if2 : tie.Need-shared-slice-read-if2
 shared-slice-read-if2 c = search needs
 
--- src/reading.rt:118:9
 returns-5 : tie.Need-returns-5
 returns-5 c =
     let s = c .before .before .before .before .before .before .before .before .before .before .before .before .before .before .before .before .args .bytes .now in
@@ -98,7 +83,6 @@ returns-5 c =
     let three = rw (c .before .before .before .before .last .given .1) at (c .before .before .before .before .before .before .read-field3 .ensures) in
     line-other s (a .at) (one .0) (two .0) (c .before .before .before .before .last .given .0 .1 .0) (three .0) (c .before .before .if1 .left) (c .if2 .taken)
 
--- src/reading.rt:121:13
 cast-t17 : tie.Need-cast-t17
 cast-t17 c =
     let s = c .before .before .before .before .before .before .before .before .before .before .before .before .before .before .before .before .args .bytes .now in
@@ -107,11 +91,9 @@ cast-t17 c =
     let few = field-limit 65535 44 (drop (a .at) s) (one .0) in
     search needs
 
--- src/reading.rt:125:21
 add-t13 : tie.Need-add-t13
 add-t13 c = search needs
 
--- src/reading.rt:98:1
 returns-6 : tie.Need-returns-6
 returns-6 c =
     let s = c .before .before .before .before .before .before .before .before .before .before .before .before .before .before .before .before .args .bytes .now in

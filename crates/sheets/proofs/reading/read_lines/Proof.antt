@@ -20,49 +20,38 @@ Inv-loop bytes rows₀ count₀ at₀ rows count at = Walked bytes rows count at
 abbrev μ-loop : tie.MeasureT-loop
 μ-loop bytes rows₀ count₀ at₀ rows count at = length bytes - at
 
--- src/reading.rt:154:5
 loop-holds : tie.Need-loop-holds Inv-loop μ-loop
 loop-holds c = walked-none (c .before .args .bytes .now)
 
--- src/reading.rt:155:13
 read-line-requires : tie.Need-read-line-requires Inv-loop μ-loop
 read-line-requires c κs = c .before .loop .inv .within
 
--- src/reading.rt:156:24
 enum-known-line : tie.Need-enum-known-line Inv-loop μ-loop
 enum-known-line c = search needs
 
--- src/reading.rt:158:43
 enum-told : tie.Need-enum-told Inv-loop μ-loop
 enum-told c = search needs
 
--- src/reading.rt:159:24
 empty-table-requires : tie.Need-empty-table-requires Inv-loop μ-loop
 empty-table-requires c κs = search needs
 
--- src/reading.rt:157:13
 returns : tie.Need-returns Inv-loop μ-loop
 returns c = rw (c .empty-table .ensures) (bad-line (c .before .before .before .before .before .loop .inv) (c .before .before .before .before .loop-test .taken) (rw (c .before .enum-told .given .1) at (c .before .before .before .read-line .ensures)))
 
--- src/reading.rt:163:13
 mul-rows : tie.Need-mul-rows Inv-loop μ-loop
 mul-rows c = search needs
 
--- src/reading.rt:163:13
 array-set-from-rows : tie.Need-array-set-from-rows Inv-loop μ-loop
 array-set-from-rows c = search needs
 
--- src/reading.rt:165:9
 add-count : tie.Need-add-count Inv-loop μ-loop
 add-count c = let big : length (c .before .before .before .before .before .before .before .before .args .bytes .now) < 18446744073709551616 = search needs in omega (arith, big, c .before .before .before .before .before .before .loop .inv .fewer, c .before .before .before .before .before .loop-test .taken)
 
--- src/reading.rt:154:5
 loop-less : tie.Need-loop-less Inv-loop μ-loop
 loop-less c =
     let line = rw (c .before .before .line .given .1) at (c .before .before .before .before .read-line .ensures) in
     omega (arith, line .1, c .before .before .before .before .before .loop-test .taken)
 
--- src/reading.rt:154:5
 loop-again : tie.Need-loop-again Inv-loop μ-loop
 loop-again c =
     let line = rw (c .before .before .line .given .1) at (c .before .before .before .before .read-line .ensures) in
@@ -74,11 +63,9 @@ loop-again c =
       | inr t ↦ walked-full w more next (line .0) (line .1 .0) (line .1 .1) (t .0 .left) (t .1)
     ]
 
--- src/reading.rt:168:5
 checked-requires : tie.Need-checked-requires Inv-loop μ-loop
 checked-requires c κs = search needs
 
--- src/reading.rt:143:1
 returns-2 : tie.Need-returns-2 Inv-loop μ-loop
 returns-2 c = c .checked .ensures ∙ all-read (c .before .before .loop .inv) (c .before .loop-test .left)
 

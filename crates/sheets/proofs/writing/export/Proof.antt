@@ -13,38 +13,30 @@ use Rattle.rules.proofs.check_table.Reads as check-table-reads
 use Rattle.sheets.proofs.writing.put_lines.Reads as put-lines-reads
 use Rattle.sheets.proofs.writing.sheet_size.Reads as sheet-size-reads
 
--- src/writing.rt:102:9
 check-table-requires : tie.Need-check-table-requires
 check-table-requires c κs = search needs
 
 enum-told : tie.Need-enum-told
 enum-told c = search needs
 
--- src/writing.rt:104:9
 enum-told-2 : tie.Need-enum-told-2
 enum-told-2 c = search needs
 
--- src/writing.rt:104:9
 returns : tie.Need-returns
 returns c = let a = c .before .before .before .before .args in rows-refused (a .table) (now (a .buffer)) _ _ (sym (c .before .before .check-table .ensures)) (c .enum-told2 .given .1)
 
--- src/writing.rt:108:9
 sheet-size-requires : tie.Need-sheet-size-requires
 sheet-size-requires c κs = few-rows (c .before .before .before .before .before .args .table) (sym (c .before .before .before .check-table .ensures) ∙ c .before .enum-told .given .1)
 
--- src/writing.rt:110:9
 returns-2 : tie.Need-returns-2
 returns-2 c = let a = c .before .before .before .before .before .before .before .args in room-refused (a .table) (now (a .buffer)) (sym (c .before .before .before .before .before .check-table .ensures) ∙ c .before .before .before .enum-told .given .1) (c .before .sheet-size .ensures) (c .if1 .taken)
 
--- src/writing.rt:115:5
 put-lines-requires : tie.Need-put-lines-requires
 put-lines-requires c κs = (few-rows (c .before .before .before .before .before .before .before .before .args .table) (sym (c .before .before .before .before .before .before .check-table .ensures) ∙ c .before .before .before .before .enum-told .given .1), omega (arith, c .before .before .sheet-size .ensures, c .before .if1 .left))
 
--- src/writing.rt:99:1
 same-length : tie.Need-same-length
 same-length c = search needs
 
--- src/writing.rt:99:1
 returns-3 : tie.Need-returns-3
 returns-3 c =
     let a = c .before .before .before .before .before .before .before .before .before .before .before .args in

@@ -8,35 +8,27 @@ use Rattle.sheets.proofs.writing.line_size.Reads as reads
 use Rattle.sheets.proofs.writing.line_size.Lts as lts
 use Rattle.sheets.proofs.writing.width.Reads as width-reads
 
--- src/writing.rt:30:20
 cast-width : tie.Need-cast-width
 cast-width c = search needs
 
--- src/writing.rt:30:9
 width-requires : tie.Need-width-requires
 width-requires c κs = search needs
 
--- src/writing.rt:31:9
 width-requires-2 : tie.Need-width-requires-2
 width-requires-2 c κs = search needs
 
--- src/writing.rt:32:9
 width-requires-3 : tie.Need-width-requires-3
 width-requires-3 c κs = search needs
 
--- src/writing.rt:33:5
 add-result : tie.Need-add-result
 add-result c = search needs
 
--- src/writing.rt:33:5
 add-result-2 : tie.Need-add-result-2
 add-result-2 c = search needs
 
--- src/writing.rt:33:5
 add-result-3 : tie.Need-add-result-3
 add-result-3 c = search needs
 
--- src/writing.rt:27:1
 returns : tie.Need-returns
 returns c =
     let e = line-length (c .before .before .before .before .args .row) in

@@ -15,29 +15,24 @@ use Rattle.sheets.proofs.writing.put_field.Reads as reads
 use Rattle.sheets.proofs.writing.put_field.Lts as lts
 use Rattle.sheets.proofs.writing.put_number.Reads as put-number-reads
 
--- src/writing.rt:70:9
 put-number-requires : tie.Need-put-number-requires
 put-number-requires c κs = let a = c .before .before .args in omega (arith, field-length (a .x) (a .stop), c .before .before .pre)
 
--- src/writing.rt:71:5
 slice-write-buffer : tie.Need-slice-write-buffer
 slice-write-buffer c =
     let a = c .before .before .before .before .before .args in
     let put = c .before .before .put-number .ensures in
     omega (arith, field-length (a .x) (a .stop), c .before .before .before .before .before .pre, put .1, kept (now (a .buffer)) (a .at) (decimal (a .x)) (put .0))
 
--- src/writing.rt:72:5
 add-result : tie.Need-add-result
 add-result c =
     let a = c .before .before .before .before .before .args in
     let big : length (now (a .buffer)) < 18446744073709551616 = search needs in
     omega (arith, big, field-length (a .x) (a .stop), c .before .before .before .before .before .pre, c .before .before .put-number .ensures .1)
 
--- src/writing.rt:66:1
 same-length : tie.Need-same-length
 same-length c = search needs
 
--- src/writing.rt:66:1
 returns : tie.Need-returns
 returns c =
     let a = c .before .before .before .before .before .args in

@@ -15,15 +15,12 @@ use Rattle.sheets.proofs.writing.put_line.Reads as reads
 use Rattle.sheets.proofs.writing.put_line.Lts as lts
 use Rattle.sheets.proofs.writing.put_field.Reads as put-field-reads
 
--- src/writing.rt:80:40
 cast-put-field : tie.Need-cast-put-field
 cast-put-field c = search needs
 
--- src/writing.rt:80:9
 put-field-requires : tie.Need-put-field-requires
 put-field-requires c κs = omega (arith, line-fields (c .before .before .before .args .row), c .before .before .before .pre)
 
--- src/writing.rt:81:9
 put-field-requires-2 : tie.Need-put-field-requires-2
 put-field-requires-2 c κs =
     let a = c .before .before .before .before .before .before .before .args in
@@ -32,7 +29,6 @@ put-field-requires-2 c κs =
     let e₁ = kept (now (a .buffer)) (a .at) (fieldBytes (r .id) 44) (one .0) in
     omega (arith, line-fields r, c .before .before .before .before .before .before .before .pre, one .1, e₁)
 
--- src/writing.rt:82:9
 put-field-requires-3 : tie.Need-put-field-requires-3
 put-field-requires-3 c κs =
     let a = c .before .before .before .before .before .before .before .before .before .before .before .args in
@@ -43,7 +39,6 @@ put-field-requires-3 c κs =
     let e₂ = kept _ _ (fieldBytes (r .cost) 44) (two .0) in
     omega (arith, line-fields r, c .before .before .before .before .before .before .before .before .before .before .before .pre, one .1, e₁, two .1, e₂)
 
--- src/writing.rt:83:5
 slice-write-buffer : tie.Need-slice-write-buffer
 slice-write-buffer c =
     let a = c .before .before .before .before .before .before .before .before .before .before .before .before .before .before .args in
@@ -56,7 +51,6 @@ slice-write-buffer c =
     let e₃ = kept _ _ (fieldBytes (r .validity) 13) (three .0) in
     omega (arith, line-fields r, c .before .before .before .before .before .before .before .before .before .before .before .before .before .before .pre, one .1, e₁, two .1, e₂, three .1, e₃)
 
--- src/writing.rt:84:5
 add-result : tie.Need-add-result
 add-result c =
     let a = c .before .before .before .before .before .before .before .before .before .before .before .before .before .before .args in
@@ -70,7 +64,6 @@ add-result c =
     let big : length (now (a .buffer)) < 18446744073709551616 = search needs in
     omega (arith, line-fields r, c .before .before .before .before .before .before .before .before .before .before .before .before .before .before .pre, one .1, two .1, three .1, big)
 
--- src/writing.rt:76:1
 same-length : tie.Need-same-length
 same-length c =
     let a = c .before .before .before .before .before .before .before .before .before .before .before .before .before .before .args in
@@ -83,7 +76,6 @@ same-length c =
     let e₃ = kept _ _ (fieldBytes (r .validity) 13) (three .0) in
     simp length-set (e₃ ∙ (e₂ ∙ e₁))
 
--- src/writing.rt:76:1
 returns : tie.Need-returns
 returns c =
     let a = c .before .before .before .before .before .before .before .before .before .before .before .before .before .before .args in

@@ -21,19 +21,15 @@ Inv-loop buffer₀ count rows at₀ i₀ buffer at i = (i ≤ count) × ((at ≡
 abbrev μ-loop : tie.MeasureT-loop
 μ-loop buffer₀ count rows at₀ i₀ buffer at i = count - i
 
--- src/writing.rt:93:5
 loop-holds : tie.Need-loop-holds Inv-loop μ-loop
 loop-holds c = (search needs, (refl, refl))
 
--- src/writing.rt:94:35
 mul-put-line : tie.Need-mul-put-line Inv-loop μ-loop
 mul-put-line c = search needs
 
--- src/writing.rt:94:35
 array-copy-out-put-line : tie.Need-array-copy-out-put-line Inv-loop μ-loop
 array-copy-out-put-line c = search needs
 
--- src/writing.rt:94:9
 put-line-requires : tie.Need-put-line-requires Inv-loop μ-loop
 put-line-requires c κs =
     let a = c .before .before .before .before .before .args in
@@ -42,15 +38,12 @@ put-line-requires c κs =
     let e = kept (a .buffer .now) 0 (sheetBytes (take (l .i) (a .t2))) (l .inv .1 .1) in
     omega (arith, e, l .inv .1 .0, sheet-longer (a .t2) (l .i) h, sheet-up-to (a .t2) (l .i + 1) (a .count) (omega (arith, c .before .before .loop-test .taken)), c .before .before .before .before .before .pre .1)
 
--- src/writing.rt:93:9
 add-i : tie.Need-add-i Inv-loop μ-loop
 add-i c = search needs
 
--- src/writing.rt:93:5
 loop-less : tie.Need-loop-less Inv-loop μ-loop
 loop-less c = search needs
 
--- src/writing.rt:93:5
 loop-again : tie.Need-loop-again Inv-loop μ-loop
 loop-again c =
     let a = c .before .before .before .before .before .before .before .before .args in
@@ -61,11 +54,9 @@ loop-again c =
     let b = put-then 0 (l .at) (sheetBytes (take (l .i) (a .t2))) (lineBytes (rowAt (a .t2) (l .i))) (a .buffer .now) (omega (arith, l .inv .1 .0)) (l .inv .1 .1) (put .0) in
     (search needs, (omega (arith, n, l .inv .1 .0, put .1), rw (sheet-next (a .t2) (l .i) h) b))
 
--- src/writing.rt:88:1
 same-length : tie.Need-same-length Inv-loop μ-loop
 same-length c = kept (c .before .before .before .args .buffer .now) 0 (sheetBytes (take (c .before .loop .i) (c .before .before .before .args .t2))) (c .before .loop .inv .1 .1)
 
--- src/writing.rt:88:1
 returns : tie.Need-returns Inv-loop μ-loop
 returns c =
     let e : c .before .loop .i ≡ c .before .before .before .args .count = omega (arith, c .before .loop .inv .0, c .loop-test .left) in

@@ -18,66 +18,51 @@ Inv-loop buffer₀ at x end y₀ i₀ buffer y i = Putting buffer₀ at x buffer
 abbrev μ-loop : tie.MeasureT-loop
 μ-loop buffer₀ at x end y₀ i₀ buffer y i = y
 
--- src/writing.rt:53:20
 width-requires : tie.Need-width-requires Inv-loop μ-loop
 width-requires c κs = search needs
 
--- src/writing.rt:53:15
 add-end : tie.Need-add-end Inv-loop μ-loop
 add-end c = search needs
 
--- src/writing.rt:55:17
 sub-i : tie.Need-sub-i Inv-loop μ-loop
 sub-i c = omega (arith, c .width .ensures .0, decimal-few (c .before .before .args .x) .0)
 
--- src/writing.rt:56:5
 loop-holds : tie.Need-loop-holds Inv-loop μ-loop
 loop-holds c =
     let w = c .width .ensures in
     let f = decimal-few (c .before .before .args .x) .0 in
     record { place = omega (arith, w .0, f); within = omega (arith, w .0, f, c .before .before .pre); long = refl; so-far = refl }
 
--- src/writing.rt:57:26
 cast-buffer : tie.Need-cast-buffer Inv-loop μ-loop
 cast-buffer c = search needs
 
--- src/writing.rt:57:21
 add-buffer : tie.Need-add-buffer Inv-loop μ-loop
 add-buffer c = search needs
 
--- src/writing.rt:57:9
 slice-write-buffer : tie.Need-slice-write-buffer Inv-loop μ-loop
 slice-write-buffer c = c .before .loop .inv .within
 
--- src/writing.rt:59:9
 sub-i-2 : tie.Need-sub-i-2 Inv-loop μ-loop
 sub-i-2 c = omega (arith, c .loop-test .taken, c .before .loop .inv .place, decimal-longer (c .before .loop .y) (c .loop-test .taken), decimal-few (c .before .loop .y / 10) .0)
 
--- src/writing.rt:56:5
 loop-less : tie.Need-loop-less Inv-loop μ-loop
 loop-less c = search needs
 
--- src/writing.rt:56:5
 loop-again : tie.Need-loop-again Inv-loop μ-loop
 loop-again c = putting-next (c .before .loop .inv) (c .loop-test .taken)
 
--- src/writing.rt:61:22
 cast-buffer-2 : tie.Need-cast-buffer-2 Inv-loop μ-loop
 cast-buffer-2 c = search needs
 
--- src/writing.rt:61:17
 add-buffer-2 : tie.Need-add-buffer-2 Inv-loop μ-loop
 add-buffer-2 c = search needs
 
--- src/writing.rt:61:5
 slice-write-buffer-2 : tie.Need-slice-write-buffer-2 Inv-loop μ-loop
 slice-write-buffer-2 c = c .before .loop .inv .within
 
--- src/writing.rt:49:1
 same-length : tie.Need-same-length Inv-loop μ-loop
 same-length c = let p = c .before .loop .inv in length-set (c .before .loop .buffer) (c .before .loop .i) _ ∙ p .long
 
--- src/writing.rt:49:1
 returns : tie.Need-returns Inv-loop μ-loop
 returns c = (putting-done (c .before .loop .inv) (omega (arith, c .loop-test .left)), omega (arith, c .before .before .width .ensures .0))
 

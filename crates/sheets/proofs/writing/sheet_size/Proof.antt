@@ -18,35 +18,27 @@ Inv-loop count rows size₀ i₀ size i = (i ≤ count) × ((size ≤ 1288490189
 abbrev μ-loop : tie.MeasureT-loop
 μ-loop count rows size₀ i₀ size i = count - i
 
--- src/writing.rt:42:5
 loop-holds : tie.Need-loop-holds Inv-loop μ-loop
 loop-holds c = (search needs, (omega arith, refl))
 
--- src/writing.rt:43:27
 mul-line-size : tie.Need-mul-line-size Inv-loop μ-loop
 mul-line-size c = search needs
 
--- src/writing.rt:43:27
 array-copy-out-line-size : tie.Need-array-copy-out-line-size Inv-loop μ-loop
 array-copy-out-line-size c = search needs
 
--- src/writing.rt:43:17
 line-size-requires : tie.Need-line-size-requires Inv-loop μ-loop
 line-size-requires c κs = search needs
 
--- src/writing.rt:43:9
 add-size : tie.Need-add-size Inv-loop μ-loop
 add-size c = omega (arith, c .before .before .before .before .pre, c .before .before .loop-test .taken, c .before .before .before .loop .inv, c .line-size .ensures)
 
--- src/writing.rt:42:9
 add-i : tie.Need-add-i Inv-loop μ-loop
 add-i c = search needs
 
--- src/writing.rt:42:5
 loop-less : tie.Need-loop-less Inv-loop μ-loop
 loop-less c = search needs
 
--- src/writing.rt:42:5
 loop-again : tie.Need-loop-again Inv-loop μ-loop
 loop-again c =
     let a = c .before .before .before .before .args in
@@ -55,7 +47,6 @@ loop-again c =
     let e = sheet-longer (a .t1) (l .i) h in
     (search needs, (omega (arith, l .inv .1 .0, c .line-size .ensures), omega (arith, e, l .inv .1 .1, c .line-size .ensures)))
 
--- src/writing.rt:37:1
 returns : tie.Need-returns Inv-loop μ-loop
 returns c =
     let e : c .before .loop .i ≡ c .before .before .args .count = omega (arith, c .before .loop .inv .0, c .loop-test .left) in

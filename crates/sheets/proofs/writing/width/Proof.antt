@@ -17,23 +17,18 @@ Inv-loop x y₀ n₀ y n = n + length (decimal y) ≡ 1 + length (decimal x)
 abbrev μ-loop : tie.MeasureT-loop
 μ-loop x y₀ n₀ y n = y
 
--- src/writing.rt:19:5
 loop-holds : tie.Need-loop-holds Inv-loop μ-loop
 loop-holds c = refl
 
--- src/writing.rt:21:9
 add-n : tie.Need-add-n Inv-loop μ-loop
 add-n c = omega (arith, c .before .before .fits, c .before .loop .inv, decimal-few (c .before .before .args .x))
 
--- src/writing.rt:19:5
 loop-less : tie.Need-loop-less Inv-loop μ-loop
 loop-less c = omega (arith, c .loop-test .taken)
 
--- src/writing.rt:19:5
 loop-again : tie.Need-loop-again Inv-loop μ-loop
 loop-again c = omega (arith, c .before .loop .inv, decimal-longer (c .before .loop .y) (c .loop-test .taken))
 
--- src/writing.rt:14:1
 returns : tie.Need-returns Inv-loop μ-loop
 returns c =
     let e = ap (λ (s : List ℕ). length s) (decimal-small (c .before .loop .y) (omega (arith, c .loop-test .left))) in

@@ -8,31 +8,24 @@ use Rattle.tables.proofs.writing.put16.Tie as tie
 use Rattle.tables.proofs.writing.put16.Reads as reads
 use Rattle.tables.proofs.writing.put16.Lts as lts
 
--- src/writing.rt:18:18
 cast-buffer : tie.Need-cast-buffer
 cast-buffer c = search needs
 
--- src/writing.rt:18:5
 slice-write-buffer : tie.Need-slice-write-buffer
 slice-write-buffer c = search needs
 
--- src/writing.rt:19:22
 cast-buffer-2 : tie.Need-cast-buffer-2
 cast-buffer-2 c = search needs
 
--- src/writing.rt:19:12
 add-buffer : tie.Need-add-buffer
 add-buffer c = search needs
 
--- src/writing.rt:19:5
 slice-write-buffer-2 : tie.Need-slice-write-buffer-2
 slice-write-buffer-2 c = simp length-set (omega (arith, c .pre))
 
--- src/writing.rt:14:1
 same-length : tie.Need-same-length
 same-length c = search needs
 
--- src/writing.rt:14:1
 returns : tie.Need-returns
 returns c = rw add-one
 

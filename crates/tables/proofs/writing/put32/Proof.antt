@@ -11,31 +11,24 @@ use Rattle.tables.proofs.writing.put32.Reads as reads
 use Rattle.tables.proofs.writing.put32.Lts as lts
 use Rattle.tables.proofs.writing.put16.Reads as put16-reads
 
--- src/writing.rt:27:23
 cast-put16 : tie.Need-cast-put16
 cast-put16 c = search needs
 
--- src/writing.rt:27:5
 put16-requires : tie.Need-put16-requires
 put16-requires c κs = search needs
 
--- src/writing.rt:28:19
 add-put16 : tie.Need-add-put16
 add-put16 c = search needs
 
--- src/writing.rt:28:27
 cast-put16-2 : tie.Need-cast-put16-2
 cast-put16-2 c = search needs
 
--- src/writing.rt:28:5
 put16-requires-2 : tie.Need-put16-requires-2
 put16-requires-2 c κs = search needs
 
--- src/writing.rt:23:1
 same-length : tie.Need-same-length
 same-length c = search needs
 
--- src/writing.rt:23:1
 returns : tie.Need-returns
 returns c =
     let a = c .before .before .before .before .before .before .before .before .before .args in

@@ -13,39 +13,30 @@ use Rattle.tables.proofs.writing.put_record.Lts as lts
 use Rattle.tables.proofs.writing.put16.Reads as put16-reads
 use Rattle.tables.proofs.writing.put32.Reads as put32-reads
 
--- src/writing.rt:36:5
 put16-requires : tie.Need-put16-requires
 put16-requires c κs = search needs
 
--- src/writing.rt:37:19
 add-put16 : tie.Need-add-put16
 add-put16 c = search needs
 
--- src/writing.rt:37:5
 put16-requires-2 : tie.Need-put16-requires-2
 put16-requires-2 c κs = search needs
 
--- src/writing.rt:38:19
 add-put32 : tie.Need-add-put32
 add-put32 c = search needs
 
--- src/writing.rt:38:5
 put32-requires : tie.Need-put32-requires
 put32-requires c κs = search needs
 
--- src/writing.rt:39:19
 add-put32-2 : tie.Need-add-put32-2
 add-put32-2 c = search needs
 
--- src/writing.rt:39:5
 put32-requires-2 : tie.Need-put32-requires-2
 put32-requires-2 c κs = search needs
 
--- src/writing.rt:32:1
 same-length : tie.Need-same-length
 same-length c = search needs
 
--- src/writing.rt:32:1
 returns : tie.Need-returns
 returns c =
     let a = c .before .before .before .before .before .before .before .before .before .before .before .before .before .before .before .before .before .args in

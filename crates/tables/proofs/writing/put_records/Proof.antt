@@ -21,23 +21,18 @@ Inv-loop buffer₀ count rows i₀ buffer i = (i ≤ count) × (buffer ≡ sets 
 abbrev μ-loop : tie.MeasureT-loop
 μ-loop buffer₀ count rows i₀ buffer i = count - i
 
--- src/writing.rt:57:5
 loop-holds : tie.Need-loop-holds Inv-loop μ-loop
 loop-holds c = (search needs, refl)
 
--- src/writing.rt:58:28
 mul-put-record : tie.Need-mul-put-record Inv-loop μ-loop
 mul-put-record c = search needs
 
--- src/writing.rt:58:36
 mul-put-record-2 : tie.Need-mul-put-record-2 Inv-loop μ-loop
 mul-put-record-2 c = search needs
 
--- src/writing.rt:58:36
 array-copy-out-put-record : tie.Need-array-copy-out-put-record Inv-loop μ-loop
 array-copy-out-put-record c = search needs
 
--- src/writing.rt:58:9
 put-record-requires : tie.Need-put-record-requires Inv-loop μ-loop
 put-record-requires c κs =
     let a = c .before .before .before .before .before .args in
@@ -45,15 +40,12 @@ put-record-requires c κs =
     let e : length (l .buffer) ≡ length (a .buffer .now) = rw (l .inv .1) (length-sets (a .buffer .now) 0 (recordsBytes (take (l .i) (a .t2)))) in
     omega (arith, e, c .before .before .loop-test .taken, c .before .before .before .before .before .pre)
 
--- src/writing.rt:57:9
 add-i : tie.Need-add-i Inv-loop μ-loop
 add-i c = search needs
 
--- src/writing.rt:57:5
 loop-less : tie.Need-loop-less Inv-loop μ-loop
 loop-less c = search needs
 
--- src/writing.rt:57:5
 loop-again : tie.Need-loop-again Inv-loop μ-loop
 loop-again c =
     let a = c .before .before .before .before .before .before .before .before .args in
@@ -62,14 +54,12 @@ loop-again c =
     let n : 12 * l .i ≡ 0 + length (recordsBytes (take (l .i) (a .t2))) = rw (records-length (take (l .i) (a .t2)), length-take-le (l .i) (a .t2) (omega arith)) (omega arith) in
     (search needs, rw (records-next (a .t2) (l .i) h) (put-then 0 (12 * l .i) (recordsBytes (take (l .i) (a .t2))) (recordBytes (rowAt (a .t2) (l .i))) (a .buffer .now) n (l .inv .1) (c .before .before .put-record .ensures)))
 
--- src/writing.rt:53:1
 same-length : tie.Need-same-length Inv-loop μ-loop
 same-length c =
     let a = c .before .before .before .args in
     let l = c .before .loop in
     rw (l .inv .1) (length-sets (a .buffer .now) 0 (recordsBytes (take (l .i) (a .t2))))
 
--- src/writing.rt:53:1
 returns : tie.Need-returns Inv-loop μ-loop
 returns c =
     let e : c .before .loop .i ≡ c .before .before .before .args .count = omega (arith, c .before .loop .inv .0, c .loop-test .left) in

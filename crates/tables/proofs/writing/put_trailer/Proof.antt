@@ -14,47 +14,36 @@ use Rattle.tables.proofs.writing.put_trailer.Lts as lts
 use Rattle.tables.proofs.writing.put16.Reads as put16-reads
 use Rattle.tables.proofs.writing.put32.Reads as put32-reads
 
--- src/writing.rt:47:28
 mul-put32 : tie.Need-mul-put32
 mul-put32 c = search needs
 
--- src/writing.rt:47:24
 add-put32 : tie.Need-add-put32
 add-put32 c = search needs
 
--- src/writing.rt:47:23
 cast-put32 : tie.Need-cast-put32
 cast-put32 c = search needs
 
--- src/writing.rt:47:5
 put32-requires : tie.Need-put32-requires
 put32-requires c κs = search needs
 
--- src/writing.rt:48:19
 add-put16 : tie.Need-add-put16
 add-put16 c = search needs
 
--- src/writing.rt:48:27
 cast-put16 : tie.Need-cast-put16
 cast-put16 c = search needs
 
--- src/writing.rt:48:5
 put16-requires : tie.Need-put16-requires
 put16-requires c κs = search needs
 
--- src/writing.rt:49:19
 add-put16-2 : tie.Need-add-put16-2
 add-put16-2 c = search needs
 
--- src/writing.rt:49:5
 put16-requires-2 : tie.Need-put16-requires-2
 put16-requires-2 c κs = search needs
 
--- src/writing.rt:43:1
 same-length : tie.Need-same-length
 same-length c = search needs
 
--- src/writing.rt:43:1
 returns : tie.Need-returns
 returns c =
     let a = c .before .before .before .before .before .before .before .before .before .before .before .before .before .args in

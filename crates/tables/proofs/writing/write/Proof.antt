@@ -19,40 +19,32 @@ use Rattle.rules.proofs.check_table.Reads as check-table-reads
 use Rattle.tables.proofs.writing.put_records.Reads as put-records-reads
 use Rattle.tables.proofs.writing.put_trailer.Reads as put-trailer-reads
 
--- src/writing.rt:66:9
 check-table-requires : tie.Need-check-table-requires
 check-table-requires c κs = search needs
 
 enum-told : tie.Need-enum-told
 enum-told c = search needs
 
--- src/writing.rt:68:9
 enum-told-2 : tie.Need-enum-told-2
 enum-told-2 c = search needs
 
--- src/writing.rt:68:9
 returns : tie.Need-returns
 returns c =
     let a = c .before .before .before .before .args in
     rows-refused (a .table) (now (a .buffer)) _ _ (sym (c .before .before .check-table .ensures)) (c .enum-told2 .given .1)
 
--- src/writing.rt:71:19
 mul-records : tie.Need-mul-records
 mul-records c = omega (arith, few-rows (c .before .before .before .before .args .table) (sym (c .before .before .check-table .ensures) ∙ c .enum-told .given .1))
 
--- src/writing.rt:72:23
 add-if1 : tie.Need-add-if1
 add-if1 c = omega (arith, few-rows (c .before .before .before .before .args .table) (sym (c .before .before .check-table .ensures) ∙ c .enum-told .given .1))
 
--- src/writing.rt:73:9
 returns-2 : tie.Need-returns-2
 returns-2 c = let a = c .before .before .before .before .before .args in room-refused (a .table) (now (a .buffer)) (sym (c .before .before .before .check-table .ensures) ∙ c .before .enum-told .given .1) (c .if1 .taken)
 
--- src/writing.rt:79:5
 put-records-requires : tie.Need-put-records-requires
 put-records-requires c κs = let few = few-rows (c .before .before .before .before .before .before .before .args .table) (sym (c .before .before .before .before .before .check-table .ensures) ∙ c .before .before .before .enum-told .given .1) in (few, omega (arith, c .before .before .if1 .left))
 
--- src/writing.rt:80:5
 put-trailer-requires : tie.Need-put-trailer-requires
 put-trailer-requires c κs =
     let a = c .before .before .before .before .before .before .before .before .before .before .before .args in
@@ -60,15 +52,12 @@ put-trailer-requires c κs =
     let e : length (c .before .before .before .put-records .last .0) ≡ length (now (a .buffer)) = rw (c .before .before .before .put-records .ensures) (length-sets (now (a .buffer)) 0 (recordsBytes (rowsIn (a .table)))) in
     (few, omega (arith, e, c .before .before .before .before .before .before .if1 .left))
 
--- src/writing.rt:83:17
 add-t7 : tie.Need-add-t7
 add-t7 c = search needs
 
--- src/writing.rt:63:1
 same-length : tie.Need-same-length
 same-length c = search needs
 
--- src/writing.rt:63:1
 returns-3 : tie.Need-returns-3
 returns-3 c =
     let a = c .before .before .before .before .before .before .before .before .before .before .before .before .before .before .args in

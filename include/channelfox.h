@@ -114,14 +114,14 @@ typedef struct {
 
 typedef struct {
     channelfox_verdict verdict;
-    size_t length; /* bytes written; 0 where refused */
+    size_t size; /* bytes written; 0 where refused */
 } channelfox_written;
 
-/* The part chosen: of the site bytes (1), of the factory bytes (2), `length` bytes from `start` on. */
+/* The part chosen: of the site bytes (1), of the factory bytes (2), `size` bytes from `start` on. */
 typedef struct {
     uint32_t source;
     size_t start;
-    size_t length;
+    size_t size;
 } channelfox_part;
 
 /* Reads a stored table. Refusals 1 to 9 and 15, with count 0 and every field zero. Rows beyond the count are zero. */
@@ -135,7 +135,7 @@ channelfox_read_answer channelfox_rows(const channelfox_object_row *rows, size_t
  * table beyond its count are not read. What is written reads back as the same rows in the same order. */
 channelfox_written channelfox_write(channelfox_table table, uint8_t *buffer, size_t length);
 
-/* Reads a reseller's sheet: lines of id, cost and validity, parted by commas and each ended by CR LF, up to 4,096 bytes. Numbers are
+/* Reads a reseller's sheet: lines of id, cost and validity, separated by commas and each ended by CR LF, up to 4,096 bytes. Numbers are
  * decimal digits without leading zero (0 itself is "0"), an id up to 65,535 and the others up to 4,294,967,295; a header, a sign, a
  * space, a quote, an empty field or a last line without CR LF is no such line. Refusals 2, then 17 at the first line that is not of
  * the form, then 4 where there is no line or more than 64, then 7, 8, 9, with count 0 and every field zero. */
@@ -147,7 +147,7 @@ channelfox_read_answer channelfox_import(const uint8_t *bytes, size_t length);
 channelfox_written channelfox_export(channelfox_table table, uint8_t *buffer, size_t length);
 
 /* The records part of the site table if that reads without refusal, otherwise of the factory table if that one does,
- * otherwise the empty part at the start of the factory bytes (source 2, start 0, length 0). */
+ * otherwise the empty part at the start of the factory bytes (source 2, start 0, size 0). */
 channelfox_part channelfox_choose(const uint8_t *site, size_t site_length, const uint8_t *factory, size_t factory_length);
 
 /* Plans a table: refusals 4, 7, 8, 9, then 10, with count 0 and every field zero. Rows of the table beyond its count are
@@ -159,9 +159,9 @@ channelfox_plan_answer channelfox_plan_table(channelfox_table table);
  * never refused by channelfox_plan_table, and no deadline there is later. */
 channelfox_plan_answer channelfox_plan_classic(channelfox_table table);
 
-/* The table with its rows in priority order, which the places told with 10 and 12 count; rows beyond the count are zero. A
- * table that gets 4, 7, 8 or 9 gives count 0 and every field zero. */
-channelfox_table channelfox_ranked(channelfox_table table);
+/* The table with its rows in priority order, which the places told with 10 and 12 count; rows beyond the count are zero. Refusals
+ * 4, 7, 8, 9, with count 0 and every field zero. */
+channelfox_read_answer channelfox_ranked(channelfox_table table);
 
 /* Reads a stored table and plans it: refusals 1 to 10 and 15. */
 channelfox_plan_answer channelfox_plan_stored(const uint8_t *bytes, size_t length);

@@ -18,9 +18,10 @@ use Rattle.rules.specs.declared.Stepped.{Stepped}
 use Rattle.rules.specs.declared.Stored.{Stored}
 use Rattle.rules.specs.declared.Stored.the-variants.{Empty, Held, Lapsed}
 use Rattle.rules.specs.declared.Verdict.{Verdict}
-use Rattle.rules.specs.declared.Verdict.the-variants.{Accepted, Refused}
+use Rattle.rules.specs.declared.Refusal.the-variants.{NotRunState}
+use Rattle.rules.specs.declared.Verdict.the-variants.{Refused}
 use Rattle.rules.specs.declared.Written.{Written}
-use Rattle.rules.specs.Refusals.{numberOf}
+use Rattle.rules.specs.Refusals.{Told, told, readingTold}
 use Rattle.rules.specs.Deadlines.{noPlan, onAccepted, planOf}
 use Rattle.rules.specs.Run.{steppedOf, advancedOf, readingOf}
 use Rattle.channelfox.specs.declared.CPart.{CPart}
@@ -35,15 +36,17 @@ use Rattle.channelfox.specs.declared.CWritten.{CWritten}
 
 -- ── Verdicts, tables, plans ──
 
+abbrev pub toldForm : Told → CVerdict
+toldForm t = record { number = t .number; place = t .place }
+
 abbrev pub verdictForm : Verdict → CVerdict
-verdictForm Accepted = record { number = 0; place = 0 }
-verdictForm (Refused r k) = record { number = numberOf r; place = k }
+verdictForm v = toldForm (told v)
 
 abbrev pub readForm : ReadTable → CReadAnswer
 readForm a = record { verdict = verdictForm (a .verdict); table = a .table }
 
 abbrev pub writtenForm : Written → CWritten
-writtenForm w = record { verdict = verdictForm (w .verdict); length = w .length }
+writtenForm w = record { verdict = verdictForm (w .verdict); size = w .size }
 
 abbrev pub planForm : Planned → CPlanAnswer
 planForm p = record { verdict = verdictForm (p .verdict); plan = p .plan }
@@ -53,7 +56,7 @@ abbrev pub plannedStored : ReadTable → Planned
 plannedStored a = onAccepted (a .verdict) (planOf (a .table))
 
 abbrev pub partForm : Part → CPart
-partForm p = record { source = cond (p .site) 1 2; start = p .start; length = p .length }
+partForm p = record { source = cond (p .site) 1 2; start = p .start; size = p .size }
 
 -- ── Runs ──
 
@@ -103,7 +106,7 @@ steppedForm s = record { verdict = verdictForm (s .verdict); run = runForm (s .r
 
 -- 13, and the run exactly as it came in
 abbrev pub noForm : CRun → CRunAnswer
-noForm form = record { verdict = record { number = 13; place = 0 }; run = form }
+noForm form = record { verdict = verdictForm (Refused NotRunState 0); run = form }
 
 unfoldable pub slotForm : CRun → Bool → CRunAnswer
 slotForm form stolen = cond (allForms form) (steppedForm (steppedOf (runOf form) stolen)) (noForm form)
@@ -112,10 +115,7 @@ unfoldable pub advanceForm : CRun → List ℕ → CRunAnswer
 advanceForm form stolen = cond (allForms form) (steppedForm (advancedOf (runOf form) stolen)) (noForm form)
 
 abbrev pub readingForm : Reading → CReading
-readingForm reading.Never = record { verdict = record { number = 0; place = 0 }; value = 0; age = 0 }
-readingForm reading.Stale = record { verdict = record { number = 0; place = 0 }; value = 1; age = 0 }
-readingForm (reading.Fresh a) = record { verdict = record { number = 0; place = 0 }; value = 2; age = a }
-readingForm (reading.Refused r k) = record { verdict = record { number = numberOf r; place = k }; value = 0; age = 0 }
+readingForm r = let t = readingTold r in record { verdict = toldForm (t .refusal); value = t .value; age = t .age }
 
 unfoldable pub readValueForm : CRun → ℕ → CReading
-readValueForm form id = cond (allForms form) (readingForm (readingOf (runOf form) id)) (record { verdict = record { number = 13; place = 0 }; value = 0; age = 0 })
+readValueForm form id = cond (allForms form) (readingForm (readingOf (runOf form) id)) (readingForm (reading.Refused NotRunState 0))

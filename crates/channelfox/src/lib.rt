@@ -8,9 +8,11 @@ ghost use Rattle.rules.specs.StoredTable.{readOf, doorOf, chosenPart};
 ghost use Rattle.rules.specs.Writing.{writtenOf, bufferAfter};
 ghost use Rattle.rules.specs.Sheet.{importOf, exportedOf, sheetAfter};
 ghost use Rattle.rules.specs.Order.{rankedOf};
-ghost use Rattle.rules.specs.Deadlines.{planOf, classicOf};
+ghost use Rattle.rules.specs.Deadlines.{planOf};
+ghost use Rattle.rules.specs.HalfHalf.{classicOf};
 ghost use Rattle.rules.specs.Run.{startOf};
-ghost use Rattle.channelfox.specs.Forms.{readForm, writtenForm, planForm, startedForm, steppedForm, plannedStored, noForm, slotForm, advanceForm, readingForm, readValueForm, partForm};
+ghost use Rattle.rules.specs.declared.Verdict.the-variants.{Accepted};
+ghost use Rattle.channelfox.specs.Forms.{verdictForm, readForm, writtenForm, planForm, startedForm, steppedForm, plannedStored, noForm, slotForm, advanceForm, readingForm, readValueForm, partForm};
 use forms::all_forms;
 use forms::run_form;
 use forms::run_of;
@@ -66,7 +68,7 @@ pub struct CReadAnswer {
 #[repr(C)]
 pub struct CWritten {
     pub verdict: CVerdict,
-    pub length: usize,
+    pub size: usize,
 }
 
 #[repr(C)]
@@ -81,7 +83,12 @@ pub struct CRunAnswer {
     pub run: CRun,
 }
 
-// A reading: `value` 0 none, 1 stale, 2 fresh with its age; 0 and 0 where refused.
+// What a reading says: no value yet, a stale one, or a fresh one.
+const NEVER: u32 = 0;
+const STALE: u32 = 1;
+const FRESH: u32 = 2;
+
+// A reading: which value, and the age of a fresh one; NEVER and 0 where refused.
 #[repr(C)]
 pub struct CReading {
     pub verdict: CVerdict,
@@ -94,7 +101,7 @@ pub struct CReading {
 pub struct CPart {
     pub source: u32,
     pub start: usize,
-    pub length: usize,
+    pub size: usize,
 }
 
 // ── Answers in their C form ──
@@ -116,7 +123,7 @@ fn written_form(written: Written) -> CWritten
     let verdict = written.verdict;
     CWritten {
         verdict: verdict_form(verdict),
-        length: written.length,
+        size: written.size,
     }
 }
 
@@ -158,10 +165,7 @@ fn no_form(run: CRun) -> CRunAnswer
     ensures { λ r. ⌜ r ≡ noForm run ⌝ }
 {
     CRunAnswer {
-        verdict: CVerdict {
-            number: 13,
-            place: 0,
-        },
+        verdict: verdict_form(Verdict::Refused(Refusal::NotRunState, 0)),
         run,
     }
 }
@@ -191,7 +195,7 @@ pub extern "C" fn channelfox_choose(site: &[u8], factory: &[u8]) -> CPart
     CPart {
         source,
         start: part.start,
-        length: part.length,
+        size: part.size,
     }
 }
 
@@ -231,10 +235,10 @@ pub extern "C" fn channelfox_plan_classic(table: Table) -> CPlanAnswer
 }
 
 #[no_mangle]
-pub extern "C" fn channelfox_ranked(table: Table) -> Table
-    ensures { λ r. ⌜ r ≡ rankedOf table ⌝ }
+pub extern "C" fn channelfox_ranked(table: Table) -> CReadAnswer
+    ensures { λ r. ⌜ r ≡ readForm (rankedOf table) ⌝ }
 {
-    planning::ranked(table)
+    read_form(planning::ranked(table))
 }
 
 // A refused read is a refused plan; the empty table of a refused read is not planned.
@@ -292,40 +296,27 @@ pub extern "C" fn channelfox_advance(run: CRun, stolen: &[u8]) -> CRunAnswer
     stepped_form(running::advance(run_of(run), stolen))
 }
 
+// A value that is told, and its age.
+fn value_form(value: u32, age: u32) -> CReading
+    ensures { λ r. ⌜ r ≡ record { verdict = verdictForm Accepted; value = value; age = age } ⌝ }
+{
+    CReading {
+        verdict: verdict_form(Verdict::Accepted),
+        value,
+        age,
+    }
+}
+
 fn reading_form(reading: Reading) -> CReading
     ensures { λ r. ⌜ r ≡ readingForm reading ⌝ }
 {
     match reading {
-        Reading::Never => CReading {
-            verdict: CVerdict {
-                number: 0,
-                place: 0,
-            },
-            value: 0,
-            age: 0,
-        },
-        Reading::Stale => CReading {
-            verdict: CVerdict {
-                number: 0,
-                place: 0,
-            },
-            value: 1,
-            age: 0,
-        },
-        Reading::Fresh(age) => CReading {
-            verdict: CVerdict {
-                number: 0,
-                place: 0,
-            },
-            value: 2,
-            age,
-        },
+        Reading::Never => value_form(NEVER, 0),
+        Reading::Stale => value_form(STALE, 0),
+        Reading::Fresh(age) => value_form(FRESH, age),
         Reading::Refused(refusal, place) => CReading {
-            verdict: CVerdict {
-                number: rules::refusal_number(refusal),
-                place,
-            },
-            value: 0,
+            verdict: verdict_form(Verdict::Refused(refusal, place)),
+            value: NEVER,
             age: 0,
         },
     }
@@ -336,14 +327,7 @@ pub extern "C" fn channelfox_read_value(run: CRun, id: u16) -> CReading
     ensures { λ r. ⌜ r ≡ readValueForm run id ⌝ }
 {
     if !all_forms(run) {
-        return CReading {
-            verdict: CVerdict {
-                number: 13,
-                place: 0,
-            },
-            value: 0,
-            age: 0,
-        };
+        return reading_form(Reading::Refused(Refusal::NotRunState, 0));
     }
     reading_form(running::read_value(run_of(run), id))
 }

@@ -127,7 +127,8 @@ fn print_refusal(name: &[u8], verdict: Verdict, ranked: Table) {
 
 // Both plans of a table that reads.
 fn compare(table: Table) {
-    let ranked = planning::ranked(table);
+    let answer = planning::ranked(table);
+    let ranked = answer.table;
     let half = planning::plan_classic(table);
     let less = planning::plan_table(table);
     let half_verdict = half.verdict;

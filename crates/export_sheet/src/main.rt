@@ -8,7 +8,7 @@ use rules::Verdict;
 fn write_sheet(table: Table) {
     let mut bytes = [0u8; 1472];
     let written = sheets::export(table, &mut bytes);
-    let n = written.length;
+    let n = written.size;
     printing::text(&bytes[..n]);
 }
 

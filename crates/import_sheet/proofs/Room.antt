@@ -9,7 +9,7 @@ use Rattle.rules.proofs.Bytes.{table-length}
 use Rattle.rules.proofs.Checks.{both-accept, few-rows}
 use Rattle.rules.proofs.Put.{told-at-most}
 
-pub written-at-most : (table : Table) (size : ℕ) → writtenOf table size .length ≤ 776
+pub written-at-most : (table : Table) (size : ℕ) → writtenOf table size .size ≤ 776
 written-at-most table size =
     told-at-most (writeVerdict table size) (tableBytes (rowsIn table)) 776 (λ e.
     let few = few-rows table (both-accept (tableVerdict table) _ e .0) in

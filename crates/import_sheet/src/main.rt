@@ -8,7 +8,7 @@ use rules::Verdict;
 fn write_table(table: Table) {
     let mut bytes = [0u8; 776];
     let written = tables::write(table, &mut bytes);
-    let n = written.length;
+    let n = written.size;
     printing::text(&bytes[..n]);
 }
 

@@ -15,9 +15,10 @@ use Rattle.rules.specs.declared.Table.{Table}
 use Rattle.rules.specs.declared.Refusal.the-variants.{NoDeadline}
 use Rattle.rules.specs.declared.Verdict.{Verdict}
 use Rattle.rules.specs.declared.Verdict.the-variants.{Accepted, Refused}
-use Rattle.rules.specs.StoredTable.{countVerdict, rowsIn, rowsVerdict, tableVerdict}
+use Rattle.rules.specs.StoredTable.{countVerdict, rowsIn, checksFrom, tableVerdict}
 use Rattle.rules.specs.Order.{inOrder}
-use Rattle.rules.specs.Deadlines.{ceiling, brings, windowOf, needOf, deadlineOf, planRow, halfRow, noPlanRow, refusedPlan, acceptedPlan, plannedRows, withDeadline, planBy, planFrom, planOf, classicOf, onAccepted}
+use Rattle.rules.specs.Deadlines.{ceiling, brings, windowOf, needOf, smallestWithin, planRow, noPlanRow, refusedPlan, acceptedPlan, plannedRows, whereFound, planBy, planFrom, planOf, onAccepted}
+use Rattle.rules.specs.HalfHalf.{halfRow, classicOf}
 use Rattle.rules.proofs.Lists.{Every}
 use Rattle.rules.proofs.Checks.{Ranged, both-accept}
 use Rattle.promises.specs.Plans.{ordered-ranged}
@@ -51,8 +52,8 @@ brings-less (m ∷ ms) (h ∷ hs) t a =
     omega (arith, b, c, brings-less ms hs t (a .1))
 
 -- so what balances there is enough here: there is a deadline, and it is no later
-deadline-below : (ms hs : List PlanRow) (r : ObjectRow) (t : ℕ) → AllNoWorse ms hs → (2 ≤ r .validity → Ranged r) → deadlineOf hs (r .cost) (r .validity) ≡ some t
-    → (d : ℕ) × (deadlineOf ms (r .cost) (r .validity) ≡ some d) × (1 ≤ t) × (d ≤ t) × (t ≤ r .validity / 2)
+deadline-below : (ms hs : List PlanRow) (r : ObjectRow) (t : ℕ) → AllNoWorse ms hs → (2 ≤ r .validity → Ranged r) → smallestWithin hs (r .cost) (r .validity / 2) ≡ some t
+    → (d : ℕ) × (smallestWithin ms (r .cost) (r .validity / 2) ≡ some d) × (1 ≤ t) × (d ≤ t) × (t ≤ r .validity / 2)
 deadline-below ms hs r t a c e =
     let f = found (needOf hs (r .cost)) (r .validity / 2) 1 t e in
     let some-cost : 1 ≤ r .cost = c (omega (arith, f .from, f .below)) .cost-from in
@@ -70,12 +71,12 @@ Both ms hs rs = (planFrom ms rs .verdict ≡ Accepted) × AllNoWorse (plannedRow
 both-fit : (ms hs : List PlanRow) (rs : List ObjectRow) → AllNoWorse ms hs → Every (λ r. 2 ≤ r .validity → Ranged r) rs → planBy halfRow hs rs .verdict ≡ Accepted → Both ms hs rs
 both-fit ms hs [] a g e = (refl, rw (take-append-seam ms (replicate (64 - length ms) noPlanRow), take-append-seam hs (replicate (64 - length hs) noPlanRow)) a)
 both-fit ms hs (r ∷ rs) a g e =
-    by-classic (deadlineOf hs (r .cost) (r .validity)) refl e (λ d t n. both-fit (ms ++ (planRow r d ∷ [])) (hs ++ (halfRow r t ∷ [])) rs (more ms hs (planRow r d) (halfRow r t) a n) (g .1))
+    by-classic (smallestWithin hs (r .cost) (r .validity / 2)) refl e (λ d t n. both-fit (ms ++ (planRow r d ∷ [])) (hs ++ (halfRow r t ∷ [])) rs (more ms hs (planRow r d) (halfRow r t) a n) (g .1))
   where
     Next : Type 0
     Next = (d t : ℕ) → NoWorse (planRow r d) (halfRow r t) → planBy halfRow (hs ++ (halfRow r t ∷ [])) rs .verdict ≡ Accepted → Both (ms ++ (planRow r d ∷ [])) (hs ++ (halfRow r t ∷ [])) rs
 
-    by-classic : (o : Option ℕ) → deadlineOf hs (r .cost) (r .validity) ≡ o → withDeadline o (λ t. planBy halfRow (hs ++ (halfRow r t ∷ [])) rs) (refusedPlan NoDeadline (length hs)) .verdict ≡ Accepted → Next → Both ms hs (r ∷ rs)
+    by-classic : (o : Option ℕ) → smallestWithin hs (r .cost) (r .validity / 2) ≡ o → whereFound o (λ t. planBy halfRow (hs ++ (halfRow r t ∷ [])) rs) (refusedPlan NoDeadline (length hs)) .verdict ≡ Accepted → Next → Both ms hs (r ∷ rs)
     by-classic none q e next = let z : _≡_ {A = ℕ} 0 1 = cc in absurd (omega arith)
     by-classic (some t) q e next =
         let b = deadline-below ms hs r t a (g .0) q in
@@ -97,5 +98,5 @@ fits-both table e = by-verdict (tableVerdict table) refl
     by-verdict Accepted w =
         let c : classicOf table ≡ planBy halfRow [] rows = rw w in
         let p : planOf table ≡ planFrom [] rows = rw w in
-        let ranged = ordered-ranged (table .rows) (table .count) (both-accept (countVerdict (table .count)) (rowsVerdict (rowsIn table)) w .1) in
+        let ranged = ordered-ranged (table .rows) (table .count) (both-accept (countVerdict (table .count)) (checksFrom [] 0 [] (rowsIn table)) w .1) in
         rw (c, p) (both-fit [] [] rows tt ranged (ap (λ (x : Planned). x .verdict) (sym c) ∙ e))

@@ -18,7 +18,7 @@ use Rattle.rules.specs.declared.Verdict.the-variants.{Accepted, Refused}
 use lib.ListN.{length, take, getD, length-append}
 use Rattle.rules.specs.StoredTable.{noRow, tableVerdict}
 use Rattle.rules.specs.Order.{inOrder}
-use Rattle.rules.specs.Deadlines.{needOf, deadlineOf, planRow, refusedPlan, acceptedPlan, withDeadline, planFrom, onAccepted, planOf}
+use Rattle.rules.specs.Deadlines.{needOf, smallestWithin, planRow, refusedPlan, acceptedPlan, whereFound, planFrom, onAccepted, planOf}
 use Rattle.rules.proofs.Balance.{found, missed}
 
 -- t is the deadline of an object with those rows ahead: the smallest whole t, at least 1, that balances, and 2 t is at most the validity
@@ -46,12 +46,12 @@ pub record FirstWithout (ahead : List PlanRow) (rs : List ObjectRow) (k : ℕ) :
 
 -- ── One object ──
 
-is-deadline : (ahead : List PlanRow) (r : ObjectRow) (t : ℕ) → deadlineOf ahead (r .cost) (r .validity) ≡ some t → IsDeadline ahead r t
+is-deadline : (ahead : List PlanRow) (r : ObjectRow) (t : ℕ) → smallestWithin ahead (r .cost) (r .validity / 2) ≡ some t → IsDeadline ahead r t
 is-deadline ahead r t e =
     let f = found (needOf ahead (r .cost)) (r .validity / 2) 1 t e in
     record { one = f .from; half = omega (arith, f .below); balances = sym (f .fixed); smallest = λ s a b x. f .moved s a b (sym x) }
 
-has-none : (ahead : List PlanRow) (r : ObjectRow) → deadlineOf ahead (r .cost) (r .validity) ≡ none → HasNone ahead r
+has-none : (ahead : List PlanRow) (r : ObjectRow) → smallestWithin ahead (r .cost) (r .validity / 2) ≡ none → HasNone ahead r
 has-none ahead r e t a b x = missed (needOf ahead (r .cost)) (r .validity / 2) 1 e t a (omega arith) (sym x)
 
 -- an object has one deadline at most
@@ -87,10 +87,10 @@ first-behind ahead r rs t k d f = record {
 -- which of the two it is, is settled by the deadlines
 planned-or-none : (ahead : List PlanRow) (rs : List ObjectRow) → Answer ahead rs (planFrom ahead rs)
 planned-or-none ahead [] = inl ([], done, rw append-nil)
-planned-or-none ahead (r ∷ rs) = by-deadline (deadlineOf ahead (r .cost) (r .validity)) refl (λ t. planned-or-none (ahead ++ (planRow r t ∷ [])) rs)
+planned-or-none ahead (r ∷ rs) = by-deadline (smallestWithin ahead (r .cost) (r .validity / 2)) refl (λ t. planned-or-none (ahead ++ (planRow r t ∷ [])) rs)
   where
-    by-deadline : (d : Option ℕ) → deadlineOf ahead (r .cost) (r .validity) ≡ d → ((t : ℕ) → Answer (ahead ++ (planRow r t ∷ [])) rs (planFrom (ahead ++ (planRow r t ∷ [])) rs))
-        → Answer ahead (r ∷ rs) (withDeadline d (λ t. planFrom (ahead ++ (planRow r t ∷ [])) rs) (refusedPlan NoDeadline (length ahead)))
+    by-deadline : (d : Option ℕ) → smallestWithin ahead (r .cost) (r .validity / 2) ≡ d → ((t : ℕ) → Answer (ahead ++ (planRow r t ∷ [])) rs (planFrom (ahead ++ (planRow r t ∷ [])) rs))
+        → Answer ahead (r ∷ rs) (whereFound d (λ t. planFrom (ahead ++ (planRow r t ∷ [])) rs) (refusedPlan NoDeadline (length ahead)))
     by-deadline none e others =
         let first : FirstWithout ahead (r ∷ rs) 0 = record { plans = []; others-have = done; inside = omega arith; it-has-none = rw append-nil (has-none ahead r e) } in
         let place : length ahead ≡ length ahead + 0 = omega arith in

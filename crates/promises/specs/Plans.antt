@@ -16,7 +16,7 @@ use Rattle.rules.specs.declared.Planned.{Planned}
 use Rattle.rules.specs.declared.Table.{Table}
 use Rattle.rules.specs.declared.Verdict.{Verdict}
 use Rattle.rules.specs.declared.Verdict.the-variants.{Accepted, Refused}
-use Rattle.rules.specs.StoredTable.{noRow, rowsIn, countVerdict, checksFrom, rowsVerdict, tableVerdict}
+use Rattle.rules.specs.StoredTable.{noRow, rowsIn, countVerdict, checksFrom, tableVerdict}
 use Rattle.rules.specs.Order.{isAhead, rowAt, rowsAt, insertPlace, placesOf, inOrder}
 use Rattle.rules.specs.Deadlines.{needOf, planRow, noPlanRow, onAccepted, planFrom, planOf, plannedRows}
 use Rattle.rules.specs.RunState.{notIn, distinct}
@@ -150,7 +150,7 @@ pub plan-rows : (table : Table) → planOf table .verdict ≡ Accepted → PlanR
 plan-rows table e =
     let rows = table .rows in
     let n = table .count in
-    let c = both-accept (countVerdict n) (rowsVerdict (rowsIn table)) (formed (tableVerdict table) (planFrom [] (inOrder rows n)) e) in
+    let c = both-accept (countVerdict n) (checksFrom [] 0 [] (rowsIn table)) (formed (tableVerdict table) (planFrom [] (inOrder rows n)) e) in
     let count = count-said n (c .0) in
     let b = planned-as table e in
     let l : length (plannedRows (planOf table .plan)) ≡ n = as-length b ∙ in-order-length rows n in

@@ -8,8 +8,8 @@ use mathlib.Core.List.{List, [], _∷_, _++_, map, append-assoc, append-nil}
 use native.Mathlib.Decide.{decLt}
 use native.Mathlib.Omega.{arith}
 use native.Mathlib.Numerals.{add-one}
-use borrow.Author.Tests.{eq-eqb, eqb-true, le-ltb}
-use lib.Dec.{eqb, ltb}
+use borrow.Author.Tests.{eq-eqb, eqb-true, le-leb}
+use lib.Dec.{eqb}
 use lib.ListN.{length, take, drop, getD, replicate, length-append, length-drop, take-append-drop, List·getD-eq-default}
 use lib.Seq.{take-append-seam, getD-append-add, drop-drop, take-add, drop-cons, take-all, length-take-le}
 use Rattle.rules.specs.declared.ObjectRow.{ObjectRow}
@@ -18,7 +18,7 @@ use Rattle.rules.specs.declared.Table.{Table}
 use Rattle.rules.specs.declared.Verdict.{Verdict}
 use Rattle.rules.specs.declared.Verdict.the-variants.{Accepted}
 use Rattle.rules.specs.Refusals.{firstRefusal}
-use Rattle.rules.specs.StoredTable.{noRow, tableOf, rowsIn, le16, le32, distanceOf, countOf, markOf, tableMark, rowOf, spareOf, recordsOf, recordsStart, storedRows, storedSpares, countVerdict, checksFrom, rowsVerdict, tableVerdict, trailerVerdict, readVerdict, readOf}
+use Rattle.rules.specs.StoredTable.{noRow, tableOf, tableSize, rowsIn, le16, le32, distanceOf, countOf, markOf, tableMark, rowOf, spareOf, recordsOf, recordsStart, storedRows, storedSpares, countVerdict, checksFrom, tableVerdict, trailerVerdict, readVerdict, readOf}
 use Rattle.rules.specs.Writing.{bytes16, bytes32, recordBytes, recordsBytes, trailerBytes, tableBytes, roomVerdict, writeVerdict, writtenOf, bufferAfter}
 use Rattle.rules.proofs.Lists.{Every, every-at}
 use Rattle.rules.proofs.Checks.{both-accept, count-in, count-said, same-spares, first-passed}
@@ -104,7 +104,7 @@ module _ (rows : List ObjectRow) (few : length rows ≤ 64) where
   rows-back : storedRows (tableBytes rows) ≡ rows
   rows-back = rw count-back (all-back rowOf (λ r. r) record-back [] rows (trailerBytes (length rows)) (recordsStart (tableBytes rows)) start-back ∙ same-rows rows)
 
-  pub reads-back : 1 ≤ length rows → rowsVerdict rows ≡ Accepted → readOf (tableBytes rows) ≡ record { verdict = Accepted; table = tableOf rows }
+  pub reads-back : 1 ≤ length rows → checksFrom [] 0 [] rows ≡ Accepted → readOf (tableBytes rows) ≡ record { verdict = Accepted; table = tableOf rows }
   reads-back some good =
       let t : trailerVerdict (tableBytes rows) ≡ Accepted = in-order (tableBytes rows) (omega (arith, long)) (omega (arith, long)) mark-back (omega (arith, count-back)) (omega (arith, count-back)) (omega (arith, count-back, distance-back)) (omega (arith, long, distance-back)) in
       let spares : storedSpares (tableBytes rows) ≡ map (λ (r : ObjectRow). 0) rows = rw count-back (all-back spareOf (λ r. 0) spare-back [] rows (trailerBytes (length rows)) (recordsStart (tableBytes rows)) start-back) in
@@ -192,7 +192,7 @@ module _ (s : List ℕ) (bytes : Every (λ b. b < 256) s) where
 
     well-formed : tableVerdict (tableOf (storedRows s)) ≡ Accepted
     well-formed =
-        let rows : rowsVerdict (storedRows s) ≡ Accepted = sym (same-spares (storedSpares s) [] 0 [] (storedRows s) none-used) ∙ checked .1 in
+        let rows : checksFrom [] 0 [] (storedRows s) ≡ Accepted = sym (same-spares (storedSpares s) [] 0 [] (storedRows s) none-used) ∙ checked .1 in
         rw (count-in (length (storedRows s)) (omega (arith, count-of, known .some)) (omega (arith, count-of, known .few)), rows-in) rows
 
     -- the bytes of the rows are the bytes
@@ -217,22 +217,22 @@ module _ (s : List ℕ) (bytes : Every (λ b. b < 256) s) where
 
 -- what is written into a buffer reads back as the same rows in the same order
 pub written-reads-back : (table : Table) (buffer : List ℕ) → length (table .rows) ≡ 64 → writeVerdict table (length buffer) ≡ Accepted
-    → readOf (take (writtenOf table (length buffer) .length) (bufferAfter table buffer)) ≡ record { verdict = Accepted; table = tableOf (rowsIn table) }
+    → readOf (take (writtenOf table (length buffer) .size) (bufferAfter table buffer)) ≡ record { verdict = Accepted; table = tableOf (rowsIn table) }
 written-reads-back table buffer long good =
     let checks = both-accept (tableVerdict table) _ good .0 in
-    let rows = both-accept (countVerdict (table .count)) (rowsVerdict (rowsIn table)) checks in
+    let rows = both-accept (countVerdict (table .count)) (checksFrom [] 0 [] (rowsIn table)) checks in
     let count = count-said (table .count) (rows .0) in
     let n : length (rowsIn table) ≡ table .count = length-take-le (table .count) (table .rows) (omega arith) in
-    let s : take (writtenOf table (length buffer) .length) (bufferAfter table buffer) ≡ tableBytes (rowsIn table) = rw (writtenOf, bufferAfter, good) (take-append-seam (tableBytes (rowsIn table)) _) in
+    let s : take (writtenOf table (length buffer) .size) (bufferAfter table buffer) ≡ tableBytes (rowsIn table) = rw (writtenOf, bufferAfter, good) (take-append-seam (tableBytes (rowsIn table)) _) in
     rw s (reads-back (rowsIn table) (omega arith) (omega arith) (rows .1))
 
 -- a table that reads and has no unread bytes, written again, gives the same bytes, and what stands behind them in the buffer stays
-pub read-writes-back : (s : List ℕ) → Every (λ b. b < 256) s → readVerdict s ≡ Accepted → length s ≡ 8 + 12 * countOf s
+pub read-writes-back : (s : List ℕ) → Every (λ b. b < 256) s → readVerdict s ≡ Accepted → length s ≡ tableSize (countOf s)
     → (buffer : List ℕ) → length s ≤ length buffer → bufferAfter (readOf s .table) buffer ≡ s ++ drop (length s) buffer
 read-writes-back s bytes reads no-gap buffer room =
     let rows = storedRows s in
     let n = count-of s bytes reads no-gap in
-    let fits : roomVerdict (8 + 12 * length rows) (length buffer) ≡ Accepted = rw (le-ltb (length buffer) (8 + 12 * length rows) (omega arith)) in
+    let fits : roomVerdict (tableSize (length rows)) (length buffer) ≡ Accepted = rw (le-leb (tableSize (length rows)) (length buffer) (omega arith)) in
     let good : writeVerdict (tableOf rows) (length buffer) ≡ Accepted = rw (well-formed s bytes reads no-gap) fits in
     let t : readOf s .table ≡ tableOf rows = rw reads in
     let b : bufferAfter (tableOf rows) buffer ≡ tableBytes (rowsIn (tableOf rows)) ++ drop (length (tableBytes (rowsIn (tableOf rows)))) buffer = rw (bufferAfter, good) in

@@ -6,8 +6,8 @@ use mathlib.Core.Path.{_≡_, refl, ap, ap₂, _∙_}
 use mathlib.Core.Bool.{Bool, true, false, cond}
 use mathlib.Core.List.{List, [], _∷_, _++_}
 use native.Mathlib.Omega.{arith}
-use borrow.Author.Tests.{le-ltb}
-use lib.Dec.{ltb}
+use borrow.Author.Tests.{le-leb}
+use lib.Dec.{leb}
 use lib.ListN.{length, take, drop, length-append, length-take}
 use lib.Seq.{take-append-seam, length-take-le}
 use Rattle.rules.specs.declared.ObjectRow.{ObjectRow}
@@ -17,7 +17,7 @@ use Rattle.rules.specs.declared.Refusal.the-variants.{TooLong}
 use Rattle.rules.specs.declared.Verdict.{Verdict}
 use Rattle.rules.specs.declared.Verdict.the-variants.{Accepted, Refused}
 use Rattle.rules.specs.Refusals.{firstRefusal}
-use Rattle.rules.specs.StoredTable.{noTable, tableOf, rowsIn, answer, countVerdict, rowsVerdict, tableVerdict, doorOf}
+use Rattle.rules.specs.StoredTable.{mostBytes, tableOf, rowsIn, refusedRead, answer, countVerdict, checksFrom, checksOf, tableVerdict, doorOf}
 use Rattle.rules.specs.Writing.{roomVerdict, toldOf, leftOf}
 use Rattle.rules.specs.Sheet.{lineBytes, sheetBytes, Lines, allRows, badLine, linesOf, linesAnswer, importOf, exportVerdict, exportedOf, sheetAfter}
 use Rattle.rules.proofs.Lists.{Every}
@@ -53,26 +53,26 @@ sheet-at-most (r ∷ rs) g h = omega (arith, length-append (lineBytes r) (sheetB
 -- so a buffer of 1,472 bytes is enough for every table
 pub room-for-all : (table : Table) → Every ShortId (rowsIn table) → tableVerdict table ≡ Accepted → length (sheetBytes (rowsIn table)) ≤ 1472
 room-for-all table short good =
-    let parts = both-accept (countVerdict (table .count)) (rowsVerdict (rowsIn table)) good in
+    let parts = both-accept (countVerdict (table .count)) (checksFrom [] 0 [] (rowsIn table)) good in
     let few = sheet-at-most (rowsIn table) (all-ranged [] 0 [] (rowsIn table) (parts .1)) short in
     let n : length (rowsIn table) ≤ table .count = simp length-take (omega arith) in
     omega (arith, few, n, count-said (table .count) (parts .0))
 
 -- what is exported into a buffer imports as the same rows in the same order
 pub exported-imports-back : (table : Table) (buffer : List ℕ) → length (table .rows) ≡ 64 → Every ShortId (rowsIn table) → exportVerdict table (length buffer) ≡ Accepted
-    → importOf (take (exportedOf table (length buffer) .length) (sheetAfter table buffer)) ≡ record { verdict = Accepted; table = tableOf (rowsIn table) }
+    → importOf (take (exportedOf table (length buffer) .size) (sheetAfter table buffer)) ≡ record { verdict = Accepted; table = tableOf (rowsIn table) }
 exported-imports-back table buffer long short good =
     let rows = rowsIn table in
     let checks = both-accept (tableVerdict table) _ good .0 in
-    let parts = both-accept (countVerdict (table .count)) (rowsVerdict rows) checks in
+    let parts = both-accept (countVerdict (table .count)) (checksFrom [] 0 [] rows) checks in
     let count = count-said (table .count) (parts .0) in
     let n : length rows ≡ table .count = length-take-le (table .count) (table .rows) (omega arith) in
     let ranged = all-ranged [] 0 [] rows (parts .1) in
     let few = sheet-at-most rows ranged short in
-    let s : take (exportedOf table (length buffer) .length) (sheetAfter table buffer) ≡ sheetBytes rows = rw (exportedOf, sheetAfter, good) (take-append-seam (sheetBytes rows) _) in
+    let s : take (exportedOf table (length buffer) .size) (sheetAfter table buffer) ≡ sheetBytes rows = rw (exportedOf, sheetAfter, good) (take-append-seam (sheetBytes rows) _) in
     let lines : linesOf (sheetBytes rows) ≡ allRows rows = lines-again (length (sheetBytes rows)) [] rows (omega arith) (all-fit rows ranged short) in
     let door : doorOf rows ≡ record { verdict = Accepted; table = tableOf rows } = rw (count-in (length rows) (omega (arith, count, n)) (omega (arith, count, n)), parts .1) in
-    rw (s, le-ltb 4096 (length (sheetBytes rows)) (omega (arith, few, n, count)), lines) door
+    rw (s, le-leb (length (sheetBytes rows)) mostBytes (omega (arith, few, n, count)), lines) door
 
 -- ── Imported, then exported ──
 
@@ -85,32 +85,30 @@ record Imported (s : List ℕ) (r : ReadTable) : Type 0 where
   rows : List ObjectRow
   bytes : sheetBytes rows ≡ s
   table-of : r .table ≡ tableOf rows
-  checked : firstRefusal (countVerdict (length rows)) (rowsVerdict rows) ≡ Accepted
+  checked : checksOf [] (length rows) rows ≡ Accepted
 
 imported : (s : List ℕ) → importOf s .verdict ≡ Accepted → Imported s (importOf s)
-imported s good = by-lines (ltb 4096 (length s)) (linesOf s) (lines-back (length s) [] s) good
+imported s good = by-lines (leb (length s) mostBytes) (linesOf s) (lines-back (length s) [] s) good
   where
-    long : ReadTable
-    long = record { verdict = Refused TooLong 0; table = noTable }
-
-    by-lines : (t : Bool) (l : Lines) → ((rows : List ObjectRow) → l ≡ allRows rows → sheetBytes rows ≡ s) → cond t long (linesAnswer l) .verdict ≡ Accepted → Imported s (cond t long (linesAnswer l))
-    by-lines true l said q = absurd (refused-not q)
-    by-lines false (badLine k) said q = absurd (refused-not q)
-    by-lines false (allRows rows) said q =
-        let v = answered (firstRefusal (countVerdict (length rows)) (rowsVerdict rows)) (tableOf rows) q in
+    by-lines : (t : Bool) (l : Lines) → ((rows : List ObjectRow) → l ≡ allRows rows → sheetBytes rows ≡ s)
+        → cond t (linesAnswer l) (refusedRead TooLong 0) .verdict ≡ Accepted → Imported s (cond t (linesAnswer l) (refusedRead TooLong 0))
+    by-lines false l said q = absurd (refused-not q)
+    by-lines true (badLine k) said q = absurd (refused-not q)
+    by-lines true (allRows rows) said q =
+        let v = answered (checksOf [] (length rows) rows) (tableOf rows) q in
         record { rows = rows; bytes = said rows refl; table-of = rw v; checked = v }
 
 -- every sheet that imports, exported again, gives the same bytes, and what stands behind them in the buffer stays
 pub imported-exports-back : (s : List ℕ) → importOf s .verdict ≡ Accepted → (buffer : List ℕ) → length s ≤ length buffer
-    → (sheetAfter (importOf s .table) buffer ≡ s ++ drop (length s) buffer) × (exportedOf (importOf s .table) (length buffer) ≡ record { verdict = Accepted; length = length s })
+    → (sheetAfter (importOf s .table) buffer ≡ s ++ drop (length s) buffer) × (exportedOf (importOf s .table) (length buffer) ≡ record { verdict = Accepted; size = length s })
 imported-exports-back s good buffer room =
     let m = imported s good in
     let table = tableOf (m .rows) in
     let rows-in : rowsIn table ≡ m .rows = take-append-seam (m .rows) _ in
     let bytes : sheetBytes (rowsIn table) ≡ s = ap sheetBytes rows-in ∙ m .bytes in
-    let well-formed : tableVerdict table ≡ Accepted = ap (λ (l : List ObjectRow). firstRefusal (countVerdict (length (m .rows))) (rowsVerdict l)) rows-in ∙ m .checked in
-    let fits-in : roomVerdict (length (sheetBytes (rowsIn table))) (length buffer) ≡ Accepted = rw (bytes, le-ltb (length buffer) (length s) room) in
+    let well-formed : tableVerdict table ≡ Accepted = ap (λ (l : List ObjectRow). checksOf [] (length (m .rows)) l) rows-in ∙ m .checked in
+    let fits-in : roomVerdict (length (sheetBytes (rowsIn table))) (length buffer) ≡ Accepted = rw (bytes, le-leb (length s) (length buffer) room) in
     let ok : exportVerdict table (length buffer) ≡ Accepted = rw well-formed fits-in in
     let left : sheetAfter table buffer ≡ s ++ drop (length s) buffer = ap₂ (λ (v : Verdict) (l : List ℕ). leftOf v l buffer) ok bytes in
-    let told : exportedOf table (length buffer) ≡ record { verdict = Accepted; length = length s } = ap₂ (λ (v : Verdict) (l : List ℕ). toldOf v l) ok bytes in
+    let told : exportedOf table (length buffer) ≡ record { verdict = Accepted; size = length s } = ap₂ (λ (v : Verdict) (l : List ℕ). toldOf v l) ok bytes in
     (ap (λ (t : Table). sheetAfter t buffer) (m .table-of) ∙ left, ap (λ (t : Table). exportedOf t (length buffer)) (m .table-of) ∙ told)

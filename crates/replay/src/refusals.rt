@@ -48,7 +48,8 @@ pub fn print(refusal: Refusal, place: usize) {
 
 // What a reseller with many probes has to know of the object at a place: which row it is, and how far it is from fitting.
 fn print_object(table: Table, place: usize) {
-    let ranked = planning::ranked(table);
+    let answer = planning::ranked(table);
+    let ranked = answer.table;
     let rows = ranked.rows;
     if 63 < place {
         return;

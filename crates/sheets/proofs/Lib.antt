@@ -1,4 +1,3 @@
 pub mod Printed
-pub mod Exported
 pub mod Fields
 pub mod Walked

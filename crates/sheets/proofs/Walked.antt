@@ -6,29 +6,27 @@ use mathlib.Core.Option.{Option, none, some}
 use native.Mathlib.Decide.{decLe}
 use native.Mathlib.Omega.{arith}
 use lib.ListN.{length, take, drop, set, replicate, length-append, length-drop, drop-of-length-le}
-use lib.Seq.{take-all, take-append-le, take-at, set-at, append-snoc}
+use lib.Seq.{take-all, take-append-le, take-at}
 use Rattle.rules.specs.declared.ObjectRow.{ObjectRow}
-use Rattle.rules.specs.declared.ReadTable.{ReadTable}
 use Rattle.rules.specs.declared.Refusal.the-variants.{LineForm}
-use Rattle.rules.specs.declared.Verdict.the-variants.{Refused}
-use Rattle.rules.specs.StoredTable.{noRow, noTable, answer, tableVerdict, doorOf}
+use Rattle.rules.specs.StoredTable.{noRow, padded, answer, refusedRead, tableVerdict, doorOf}
 use Rattle.rules.specs.Sheet.{Lines, allRows, readLine, lineOn, linesFrom, linesOf, linesAnswer}
 use Rattle.rules.proofs.Checks.{count-many}
+use Rattle.rules.proofs.Lists.{fill-one}
 use Rattle.rules.proofs.SheetLines.{a-line, no-line}
 
 -- ── The rows that are kept ──
 
 -- the first 64 of the rows seen, and rows of zeros after them
 abbrev pub kept : List ObjectRow → ℕ → List ObjectRow
-kept seen count = take 64 seen ++ replicate (64 - count) noRow
+kept seen count = padded count noRow (take 64 seen)
 
 module _ (seen : List ObjectRow) (count : ℕ) (counted : count ≡ length seen) (row : ObjectRow) where
   kept-next : count < 64 → set (kept seen count) count row ≡ kept (seen ++ row ∷ []) (count + 1)
   kept-next h =
-      let e : 64 - count ≡ suc (64 - (count + 1)) = omega arith in
       let all : take 64 seen ≡ seen = take-all 64 seen (omega (arith, counted)) in
       let more : take 64 (seen ++ row ∷ []) ≡ seen ++ row ∷ [] = take-all 64 (seen ++ row ∷ []) (simp length-append (omega (arith, counted))) in
-      rw (all, more, e, set-at seen noRow (replicate (64 - (count + 1)) noRow) row count (sym counted), append-snoc seen row (replicate (64 - (count + 1)) noRow))
+      rw (all, more) (fill-one noRow seen 64 count row counted h)
 
   kept-full : 64 ≤ count → kept seen count ≡ kept (seen ++ row ∷ []) (count + 1)
   kept-full h =
@@ -73,7 +71,7 @@ module _ {s : List ℕ} {rows : List ObjectRow} {count at : ℕ} (w : Walked s r
         let t : 1 ≤ length (drop at s) = simp length-drop (omega (arith, h)) in
         w .state ∙ (ap (λ (n : ℕ). linesFrom n (w .seen) (drop at s)) e ∙ a-line (w .left - 1) (w .seen) (drop at s) t)
 
-    pub bad-line : readLine (drop at s) ≡ none → record { verdict = Refused LineForm count; table = noTable } ≡ linesAnswer (linesOf s)
+    pub bad-line : readLine (drop at s) ≡ none → refusedRead LineForm count ≡ linesAnswer (linesOf s)
     bad-line e = rw (on, e, w .counted)
 
     module _ {row : ObjectRow} (next : ℕ) (e : readLine (drop at s) ≡ some (row, drop next s)) (k : at < next) (l : next ≤ length s) where

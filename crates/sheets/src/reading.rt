@@ -2,14 +2,18 @@
 ghost use mathlib.Core.Path.{_≡_};
 ghost use Prim.Native.Nat.{_≤_};
 ghost use lib.ListN.{length, drop};
-ghost use Rattle.rules.specs.StoredTable.{answer, tableVerdict};
 ghost use Rattle.rules.specs.Sheet.{fieldEnd, readField, readLine, linesOf, linesAnswer, importOf};
 ghost use Rattle.sheets.specs.Found.{WentOn, FieldAt, LineAt};
 use rules::ObjectRow;
+use rules::ROWS;
 use rules::ReadTable;
 use rules::Refusal;
 use rules::Table;
-use rules::Verdict;
+
+// The most bytes that a sheet may have, the largest id and the largest of the other numbers.
+const MOST_BYTES: usize = 4096;
+const MOST_ID: u32 = 65535;
+const MOST_NUMBER: u32 = 4294967295;
 
 // How far a number was read: its value so far, and the place behind its digits.
 struct Digits {
@@ -40,16 +44,16 @@ fn go_on(bytes: &[u8], at: usize, value: u64, limit: u32) -> Digits
     let mut next = at;
     while next < size {
         let c = bytes[next];
-        if c < 48 {
+        if c < b'0' {
             break;
         }
-        if 57 < c {
+        if b'9' < c {
             break;
         }
         if most < v {
             break;
         }
-        v = v * 10 + (c - 48) as u64;
+        v = v * 10 + (c - b'0') as u64;
         next += 1;
     }
     Digits { value: v, next }
@@ -81,16 +85,16 @@ fn read_field(bytes: &[u8], at: usize, limit: u32, stop: u8) -> Field
         return Field::Missing;
     }
     let c = bytes[at];
-    if c == 48 {
+    if c == b'0' {
         return end_field(bytes, at + 1, 0, limit, stop);
     }
-    if c < 48 {
+    if c < b'0' {
         return Field::Missing;
     }
-    if 57 < c {
+    if b'9' < c {
         return Field::Missing;
     }
-    let digits = go_on(bytes, at + 1, (c - 48) as u64, limit);
+    let digits = go_on(bytes, at + 1, (c - b'0') as u64, limit);
     end_field(bytes, digits.next, digits.value, limit, stop)
 }
 
@@ -99,22 +103,22 @@ fn read_line(bytes: &[u8], at: usize) -> Line
     requires { ⌜ at ≤ length (now bytes) ⌝ }
     ensures { λ r. ⌜ LineAt (now (bytes .entry)) at (readLine (drop at (now (bytes .entry)))) r ⌝ }
 {
-    let first = read_field(bytes, at, 65535, 44);
+    let first = read_field(bytes, at, MOST_ID, b',');
     let Field::Found(id, second) = first else {
         return Line::Bad;
     };
-    let middle = read_field(bytes, second, 4294967295, 44);
+    let middle = read_field(bytes, second, MOST_NUMBER, b',');
     let Field::Found(cost, third) = middle else {
         return Line::Bad;
     };
-    let last = read_field(bytes, third, 4294967295, 13);
+    let last = read_field(bytes, third, MOST_NUMBER, b'\r');
     let Field::Found(validity, end) = last else {
         return Line::Bad;
     };
     if bytes.len() <= end {
         return Line::Bad;
     }
-    if bytes[end] != 10 {
+    if bytes[end] != b'\n' {
         return Line::Bad;
     }
     let row = ObjectRow {
@@ -125,58 +129,34 @@ fn read_line(bytes: &[u8], at: usize) -> Line
     Line::Read(row, end + 1)
 }
 
-// The answer to the rows of a sheet: checks 4, 7, 8, 9.
-fn checked(table: Table) -> ReadTable
-    ensures { λ r. ⌜ r ≡ answer (tableVerdict table) table ⌝ }
-{
-    let verdict = rules::check_table(table);
-    match verdict {
-        Verdict::Accepted => ReadTable { verdict, table },
-        Verdict::Refused(_, _) => ReadTable {
-            verdict,
-            table: rules::empty_table(),
-        },
-    }
-}
-
 // The answer to the lines of a sheet: the first that is not of the form, or the answer to all rows. Rows beyond 64 are only counted.
 fn read_lines(bytes: &[u8]) -> ReadTable
     ensures { λ r. ⌜ r ≡ linesAnswer (linesOf (now (bytes .entry))) ⌝ }
 {
-    let none = ObjectRow {
-        id: 0,
-        cost: 0,
-        validity: 0,
-    };
-    let mut rows = [none; 64];
+    let none = rules::empty_row();
+    let mut rows = [none; ROWS];
     let mut count = 0;
     let mut at = 0;
     while at < bytes.len() {
         let line = read_line(bytes, at);
         let Line::Read(row, next) = line else {
-            return ReadTable {
-                verdict: Verdict::Refused(Refusal::LineForm, count),
-                table: rules::empty_table(),
-            };
+            return rules::refused_read(Refusal::LineForm, count);
         };
-        if count < 64 {
+        if count < ROWS {
             rows[count] = row;
         }
         count += 1;
         at = next;
     }
-    checked(Table { count, rows })
+    rules::check_answer(Table { count, rows })
 }
 
 // A sheet to a table, or the refusal with an empty table.
 pub fn import(bytes: &[u8]) -> ReadTable
     ensures { λ r. ⌜ r ≡ importOf (now (bytes .entry)) ⌝ }
 {
-    if 4096 < bytes.len() {
-        return ReadTable {
-            verdict: Verdict::Refused(Refusal::TooLong, 0),
-            table: rules::empty_table(),
-        };
+    if MOST_BYTES < bytes.len() {
+        return rules::refused_read(Refusal::TooLong, 0);
     }
     read_lines(bytes)
 }

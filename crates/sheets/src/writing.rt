@@ -5,6 +5,7 @@ ghost use lib.ListN.{length, take};
 ghost use lib.Seq.{sets};
 ghost use Rattle.rules.specs.Sheet.{decimal, fieldBytes, lineBytes, sheetBytes, exportedOf, sheetAfter};
 use rules::ObjectRow;
+use rules::ROWS;
 use rules::Refusal;
 use rules::Table;
 use rules::Verdict;
@@ -34,7 +35,7 @@ fn line_size(row: ObjectRow) -> usize
 }
 
 // How many bytes the lines of the first `count` rows have.
-fn sheet_size(rows: [ObjectRow; 64], count: usize) -> usize
+fn sheet_size(rows: [ObjectRow; ROWS], count: usize) -> usize
     requires { ⌜ count ≤ 64 ⌝ }
     ensures { λ r. ⌜ r ≡ length (sheetBytes (take count rows)) ⌝ }
 {
@@ -54,11 +55,11 @@ fn put_number(buffer: &mut [u8], at: usize, x: u32) -> usize
     let mut y = x;
     let mut i = end - 1;
     while 9 < y {
-        buffer[i] = 48 + (y % 10) as u8;
+        buffer[i] = b'0' + (y % 10) as u8;
         y = y / 10;
         i -= 1;
     }
-    buffer[i] = 48 + y as u8;
+    buffer[i] = b'0' + y as u8;
     end
 }
 
@@ -77,15 +78,15 @@ fn put_line(buffer: &mut [u8], at: usize, row: ObjectRow) -> usize
     requires { ⌜ at + length (lineBytes row) ≤ length (now buffer) ⌝ }
     ensures { λ r. ⌜ (now (buffer .exit) ≡ sets (now (buffer .entry)) at (lineBytes row)) × (r ≡ at + length (lineBytes row)) ⌝ }
 {
-    let second = put_field(buffer, at, row.id as u32, 44);
-    let third = put_field(buffer, second, row.cost, 44);
-    let end = put_field(buffer, third, row.validity, 13);
-    buffer[end] = 10;
+    let second = put_field(buffer, at, row.id as u32, b',');
+    let third = put_field(buffer, second, row.cost, b',');
+    let end = put_field(buffer, third, row.validity, b'\r');
+    buffer[end] = b'\n';
     end + 1
 }
 
 // The lines of the first `count` rows, from the start of the buffer on.
-fn put_lines(buffer: &mut [u8], rows: [ObjectRow; 64], count: usize)
+fn put_lines(buffer: &mut [u8], rows: [ObjectRow; ROWS], count: usize)
     requires { ⌜ (count ≤ 64) × (length (sheetBytes (take count rows)) ≤ length (now buffer)) ⌝ }
     ensures { λ _. ⌜ now (buffer .exit) ≡ sets (now (buffer .entry)) 0 (sheetBytes (take count rows)) ⌝ }
 {
@@ -101,7 +102,7 @@ pub fn export(table: Table, buffer: &mut [u8]) -> Written
 {
     let verdict = rules::check_table(table);
     let Verdict::Accepted = verdict else {
-        return Written { verdict, length: 0 };
+        return Written { verdict, size: 0 };
     };
     let count = table.count;
     let rows = table.rows;
@@ -109,12 +110,12 @@ pub fn export(table: Table, buffer: &mut [u8]) -> Written
     if buffer.len() < size {
         return Written {
             verdict: Verdict::Refused(Refusal::BufferSmall, 0),
-            length: 0,
+            size: 0,
         };
     }
     put_lines(buffer, rows, count);
     Written {
         verdict,
-        length: size,
+        size,
     }
 }

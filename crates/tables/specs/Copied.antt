@@ -9,13 +9,13 @@ use Rattle.rules.specs.declared.Table.{Table}
 use Rattle.rules.specs.StoredTable.{noRow, answer, tableVerdict}
 
 -- the first n of the rows, with rows of zeros after them where there are fewer: always n rows
-unfoldable pub padded : ℕ → List ObjectRow → List ObjectRow
-padded zero ys = []
-padded (suc n) [] = noRow ∷ padded n []
-padded (suc n) (y ∷ ys) = y ∷ padded n ys
+unfoldable pub fitted : ℕ → List ObjectRow → List ObjectRow
+fitted zero ys = []
+fitted (suc n) [] = noRow ∷ fitted n []
+fitted (suc n) (y ∷ ys) = y ∷ fitted n ys
 
 abbrev pub copiedOf : List ObjectRow → Table
-copiedOf ys = record { count = length ys; rows = padded 64 ys }
+copiedOf ys = record { count = length ys; rows = fitted 64 ys }
 
 -- no row copied yet
 abbrev pub emptyOf : ℕ → Table

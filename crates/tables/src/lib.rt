@@ -5,18 +5,26 @@ mod writing;
 
 use rules::ObjectRow;
 use rules::Part;
+use rules::ROWS;
 use rules::ReadTable;
 use rules::Refusal;
 use rules::Table;
 use rules::Verdict;
 pub use writing::write;
 ghost use mathlib.Core.Path.{_≡_};
-ghost use mathlib.Core.List.{_++_};
-ghost use Prim.Native.Nat.{_+_, _-_, _*_, _≤_, _<_};
-ghost use lib.ListN.{length, replicate};
+ghost use Prim.Native.Nat.{_+_, _*_, _≤_, _<_};
+ghost use lib.ListN.{length};
 ghost use Rattle.rules.specs.declared.Verdict.the-variants.{Accepted};
-ghost use Rattle.rules.specs.StoredTable.{noRow, le16, le32, trailerVerdict, countOf, recordsStart, rowOf, spareOf, recordsOf, readOf, readVerdict, doorOf, accepts, recordsPart, chosenPart, Chosen};
+ghost use Rattle.rules.specs.StoredTable.{noRow, padded, recordSize, le16, le32, trailerVerdict, countOf, recordsStart, rowOf, spareOf, recordsOf, readOf, readVerdict, doorOf, accepts, recordsPart, chosenPart, Chosen};
 ghost use Rattle.tables.specs.Copied.{copiedOf, emptyOf, placed, checkedOf};
+
+// The trailer's bytes, a record's, and the most that a stored table may have.
+const TRAILER: usize = 8;
+const RECORD: usize = 12;
+const MOST_BYTES: usize = 4096;
+
+// 4D 4C, the low byte first.
+const MARK: u16 = 0x4C4D;
 
 // A byte as a wider number. That it stays below 256 is said for the callers.
 fn wide(x: u8) -> u16
@@ -50,25 +58,25 @@ fn check_trailer(bytes: &[u8]) -> Verdict
     ensures { λ r. ⌜ r ≡ trailerVerdict (now (bytes .entry)) ⌝ }
 {
     let size = bytes.len();
-    if size < 8 {
+    if size < TRAILER {
         return Verdict::Refused(Refusal::TooShort, 0);
     }
-    if 4096 < size {
+    if MOST_BYTES < size {
         return Verdict::Refused(Refusal::TooLong, 0);
     }
     let mark = read16(bytes, size - 2);
-    if mark != 19533 {
+    if mark != MARK {
         return Verdict::Refused(Refusal::WrongMark, 0);
     }
     let count = read16(bytes, size - 4) as usize;
     if count < 1 {
         return Verdict::Refused(Refusal::CountRange, 0);
     }
-    if 64 < count {
+    if ROWS < count {
         return Verdict::Refused(Refusal::CountRange, 0);
     }
     let distance = read32(bytes, size - 8) as usize;
-    if distance < 8 + 12 * count {
+    if distance < TRAILER + RECORD * count {
         return Verdict::Refused(Refusal::DistanceSmall, 0);
     }
     if size < distance {
@@ -96,7 +104,7 @@ fn records_start(bytes: &[u8]) -> usize
 
 // The object row of the record that begins at a place.
 fn row_at(bytes: &[u8], at: usize) -> ObjectRow
-    requires { ⌜ at + 12 ≤ length (now bytes) ⌝ }
+    requires { ⌜ at + recordSize ≤ length (now bytes) ⌝ }
     ensures { λ r. ⌜ r ≡ rowOf (now (bytes .entry)) at ⌝ }
 {
     ObjectRow {
@@ -107,33 +115,29 @@ fn row_at(bytes: &[u8], at: usize) -> ObjectRow
 }
 
 // The object rows of `count` records, and rows of zeros after them.
-fn rows_from(bytes: &[u8], start: usize, count: usize) -> [ObjectRow; 64]
-    requires { ⌜ (count ≤ 64) × (start + 12 * count ≤ length (now bytes)) ⌝ }
-    ensures { λ r. ⌜ r ≡ recordsOf rowOf (now (bytes .entry)) start count ++ replicate (64 - count) noRow ⌝ }
+fn rows_from(bytes: &[u8], start: usize, count: usize) -> [ObjectRow; ROWS]
+    requires { ⌜ (count ≤ 64) × (start + recordSize * count ≤ length (now bytes)) ⌝ }
+    ensures { λ r. ⌜ r ≡ padded count noRow (recordsOf rowOf (now (bytes .entry)) start count) ⌝ }
 {
-    let none = ObjectRow {
-        id: 0,
-        cost: 0,
-        validity: 0,
-    };
-    let mut rows = [none; 64];
+    let none = rules::empty_row();
+    let mut rows = [none; ROWS];
     let mut n = 0;
     while n < count {
-        rows[n] = row_at(bytes, start + 12 * n);
+        rows[n] = row_at(bytes, start + RECORD * n);
         n += 1;
     }
     rows
 }
 
 // The spare fields of `count` records, and zeros after them.
-fn spares_from(bytes: &[u8], start: usize, count: usize) -> [u16; 64]
-    requires { ⌜ (count ≤ 64) × (start + 12 * count ≤ length (now bytes)) ⌝ }
-    ensures { λ r. ⌜ r ≡ recordsOf spareOf (now (bytes .entry)) start count ++ replicate (64 - count) 0 ⌝ }
+fn spares_from(bytes: &[u8], start: usize, count: usize) -> [u16; ROWS]
+    requires { ⌜ (count ≤ 64) × (start + recordSize * count ≤ length (now bytes)) ⌝ }
+    ensures { λ r. ⌜ r ≡ padded count 0 (recordsOf spareOf (now (bytes .entry)) start count) ⌝ }
 {
-    let mut spares = [0u16; 64];
+    let mut spares = [0u16; ROWS];
     let mut n = 0;
     while n < count {
-        spares[n] = read16(bytes, start + 12 * n + 2);
+        spares[n] = read16(bytes, start + RECORD * n + 2);
         n += 1;
     }
     spares
@@ -144,37 +148,24 @@ pub fn read(bytes: &[u8]) -> ReadTable
     ensures { λ r. ⌜ r ≡ readOf (now (bytes .entry)) ⌝ }
 {
     let trailer = check_trailer(bytes);
-    let Verdict::Accepted = trailer else {
-        return ReadTable {
-            verdict: trailer,
-            table: rules::empty_table(),
-        };
-    };
+    if let Verdict::Refused(refusal, place) = trailer {
+        return rules::refused_read(refusal, place);
+    }
     let count = records_count(bytes);
     let start = records_start(bytes);
     let rows = rows_from(bytes, start, count);
     let spares = spares_from(bytes, start, count);
     let table = Table { count, rows };
     let verdict = rules::check_records(spares, table);
-    match verdict {
-        Verdict::Accepted => ReadTable { verdict, table },
-        Verdict::Refused(_, _) => ReadTable {
-            verdict,
-            table: rules::empty_table(),
-        },
-    }
+    rules::answer(verdict, table)
 }
 
 // A table of `count` rows of which none is copied yet.
 fn empty_of(count: usize) -> Table
     ensures { λ r. ⌜ r ≡ emptyOf count ⌝ }
 {
-    let none = ObjectRow {
-        id: 0,
-        cost: 0,
-        validity: 0,
-    };
-    let rows = [none; 64];
+    let none = rules::empty_row();
+    let rows = [none; ROWS];
     Table { count, rows }
 }
 
@@ -182,7 +173,7 @@ fn empty_of(count: usize) -> Table
 fn least_of(count: usize) -> usize
     ensures { λ r. ⌜ (r ≤ 64) × (r ≤ count) × (r < 64 → r ≡ count) ⌝ }
 {
-    if count < 64 { count } else { 64 }
+    if count < ROWS { count } else { ROWS }
 }
 
 // The table with `row` at `at`.
@@ -213,14 +204,7 @@ fn copy_rows(rows: &[ObjectRow]) -> Table
 fn check_copied(table: Table) -> ReadTable
     ensures { λ r. ⌜ r ≡ checkedOf table ⌝ }
 {
-    let verdict = rules::check_table(table);
-    match verdict {
-        Verdict::Accepted => ReadTable { verdict, table },
-        Verdict::Refused(_, _) => ReadTable {
-            verdict,
-            table: rules::empty_table(),
-        },
-    }
+    rules::check_answer(table)
 }
 
 // The second door: a lent list of object rows, or the refusal with an empty table. The list is never changed.
@@ -248,12 +232,8 @@ fn records_part(bytes: &[u8], site: bool) -> Part
     ensures { λ r. ⌜ r ≡ recordsPart (now (bytes .entry)) site ⌝ }
 {
     let start = records_start(bytes);
-    let length = 12 * records_count(bytes);
-    Part {
-        site,
-        start,
-        length,
-    }
+    let size = RECORD * records_count(bytes);
+    Part { site, start, size }
 }
 
 // The choice, as a place: of the site bytes or of the factory bytes, where it begins, and how many bytes it has.
@@ -269,7 +249,7 @@ pub fn chosen_part(site: &[u8], factory: &[u8]) -> Part
     Part {
         site: false,
         start: 0,
-        length: 0,
+        size: 0,
     }
 }
 
@@ -280,7 +260,7 @@ pub fn choose<'a>(site: &'a [u8], factory: &'a [u8]) -> &'a [u8]
 {
     let part = chosen_part(site, factory);
     let start = part.start;
-    let end = start + part.length;
+    let end = start + part.size;
     if part.site {
         return &site[start..end];
     }

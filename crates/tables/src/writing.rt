@@ -4,8 +4,13 @@ ghost use mathlib.Core.Path.{_≡_};
 ghost use Prim.Native.Nat.{_+_, _*_, _≤_};
 ghost use lib.ListN.{length, take};
 ghost use lib.Seq.{sets};
+ghost use Rattle.rules.specs.StoredTable.{recordSize, trailerSize};
 ghost use Rattle.rules.specs.Writing.{bytes16, bytes32, recordBytes, recordsBytes, trailerBytes, writtenOf, bufferAfter};
+use super::MARK;
+use super::RECORD;
+use super::TRAILER;
 use rules::ObjectRow;
+use rules::ROWS;
 use rules::Refusal;
 use rules::Table;
 use rules::Verdict;
@@ -31,7 +36,7 @@ fn put32(buffer: &mut [u8], at: usize, x: u32)
 
 // The record of an object at `at`.
 fn put_record(buffer: &mut [u8], at: usize, row: ObjectRow)
-    requires { ⌜ at + 12 ≤ length (now buffer) ⌝ }
+    requires { ⌜ at + recordSize ≤ length (now buffer) ⌝ }
     ensures { λ _. ⌜ now (buffer .exit) ≡ sets (now (buffer .entry)) at (recordBytes row) ⌝ }
 {
     put16(buffer, at, row.id);
@@ -42,21 +47,21 @@ fn put_record(buffer: &mut [u8], at: usize, row: ObjectRow)
 
 // The trailer of `count` records at `at`.
 fn put_trailer(buffer: &mut [u8], at: usize, count: usize)
-    requires { ⌜ (count ≤ 64) × (at + 8 ≤ length (now buffer)) ⌝ }
+    requires { ⌜ (count ≤ 64) × (at + trailerSize ≤ length (now buffer)) ⌝ }
     ensures { λ _. ⌜ now (buffer .exit) ≡ sets (now (buffer .entry)) at (trailerBytes count) ⌝ }
 {
-    put32(buffer, at, (8 + 12 * count) as u32);
+    put32(buffer, at, (TRAILER + RECORD * count) as u32);
     put16(buffer, at + 4, count as u16);
-    put16(buffer, at + 6, 19533);
+    put16(buffer, at + 6, MARK);
 }
 
 // The records of the first `count` rows, from the start of the buffer on.
-fn put_records(buffer: &mut [u8], rows: [ObjectRow; 64], count: usize)
-    requires { ⌜ (count ≤ 64) × (12 * count ≤ length (now buffer)) ⌝ }
+fn put_records(buffer: &mut [u8], rows: [ObjectRow; ROWS], count: usize)
+    requires { ⌜ (count ≤ 64) × (recordSize * count ≤ length (now buffer)) ⌝ }
     ensures { λ _. ⌜ now (buffer .exit) ≡ sets (now (buffer .entry)) 0 (recordsBytes (take count rows)) ⌝ }
 {
     for i in 0..count {
-        put_record(buffer, 12 * i, rows[i]);
+        put_record(buffer, RECORD * i, rows[i]);
     }
 }
 
@@ -66,14 +71,14 @@ pub fn write(table: Table, buffer: &mut [u8]) -> Written
 {
     let verdict = rules::check_table(table);
     let Verdict::Accepted = verdict else {
-        return Written { verdict, length: 0 };
+        return Written { verdict, size: 0 };
     };
     let count = table.count;
-    let records = 12 * count;
-    if buffer.len() < 8 + records {
+    let records = RECORD * count;
+    if buffer.len() < TRAILER + records {
         return Written {
             verdict: Verdict::Refused(Refusal::BufferSmall, 0),
-            length: 0,
+            size: 0,
         };
     }
     let rows = table.rows;
@@ -81,6 +86,6 @@ pub fn write(table: Table, buffer: &mut [u8]) -> Written
     put_trailer(buffer, records, count);
     Written {
         verdict,
-        length: 8 + records,
+        size: TRAILER + records,
     }
 }

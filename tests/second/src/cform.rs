@@ -62,11 +62,11 @@ pub fn handed_in(count: usize, rows: &[ObjectRow]) -> ffi::Table {
     ffi::Table { count, ..table(rows) }
 }
 
-/// What is refused has length 0.
+/// What is refused has size 0.
 pub fn written(answer: &Result<usize, Refusal>) -> ffi::Written {
     ffi::Written {
         verdict: verdict(answer),
-        length: *answer.as_ref().unwrap_or(&0),
+        size: *answer.as_ref().unwrap_or(&0),
     }
 }
 
@@ -79,11 +79,6 @@ pub fn read_answer(answer: &Result<Vec<ObjectRow>, Refusal>) -> ffi::ReadAnswer 
             Err(_) => ffi::Table::default(),
         },
     }
-}
-
-/// Rows that are refused have no order to show: count 0 and every field zero.
-pub fn ranked(answer: &Result<Vec<ObjectRow>, Refusal>) -> ffi::Table {
-    read_answer(answer).table
 }
 
 /// A refused plan has count 0 and every field zero.
@@ -135,7 +130,7 @@ pub fn part(part: &Part) -> ffi::Part {
             Source::Factory => ffi::FACTORY,
         },
         start: part.start,
-        length: part.bytes.len(),
+        size: part.bytes.len(),
     }
 }
 

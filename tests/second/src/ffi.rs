@@ -113,14 +113,14 @@ pub struct Reading {
 pub struct Part {
     pub source: u32,
     pub start: usize,
-    pub length: usize,
+    pub size: usize,
 }
 
 #[repr(C)]
 #[derive(Clone, Copy, PartialEq, Eq, Debug)]
 pub struct Written {
     pub verdict: Verdict,
-    pub length: usize,
+    pub size: usize,
 }
 
 impl Default for Table {
@@ -187,7 +187,7 @@ extern "C" {
     fn channelfox_choose(site: *const u8, site_length: usize, factory: *const u8, factory_length: usize) -> Part;
     fn channelfox_plan_table(table: Table) -> PlanAnswer;
     fn channelfox_plan_classic(table: Table) -> PlanAnswer;
-    fn channelfox_ranked(table: Table) -> Table;
+    fn channelfox_ranked(table: Table) -> ReadAnswer;
     fn channelfox_plan_stored(bytes: *const u8, length: usize) -> PlanAnswer;
     fn channelfox_start(table: Table, clock: u32, firsts: *const u32, length: usize) -> RunAnswer;
     fn channelfox_slot(run: *mut Run, stolen: bool) -> Verdict;
@@ -289,7 +289,7 @@ pub fn plan_classic(table: &Table) -> PlanAnswer {
 }
 
 /// The rows in priority order.
-pub fn ranked(table: &Table) -> Table {
+pub fn ranked(table: &Table) -> ReadAnswer {
     // Safety: all of it goes by value.
     unsafe { channelfox_ranked(*table) }
 }

@@ -22,7 +22,7 @@ fn plans(tally: &mut Tally) -> Result<(), String> {
     for numbers in PLANS {
         let rows = numbers.rows();
         let expected = cform::plan_answer(&numbers.plan());
-        let ranked = cform::table(&rows);
+        let ranked = cform::read_answer(&Ok(rows.clone()));
         for rows in [rows.clone(), rows.into_iter().rev().collect()] {
             let table = cform::table(&rows);
             let told = || numbers.from.to_string();

@@ -104,7 +104,7 @@ fn in_order(count: usize, rows: &[ObjectRow], table: &ffi::Table, tally: &mut Ta
     let answer = ranked(count, rows);
     agree(
         "channelfox_ranked",
-        &cform::ranked(&answer),
+        &cform::read_answer(&answer),
         &ffi::ranked(table),
         || format!("{table:?}"),
     )?;

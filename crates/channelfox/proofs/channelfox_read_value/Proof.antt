@@ -1,8 +1,8 @@
 -- `channelfox::channelfox_read_value` meets its contract. Assumes nothing.
-use borrow.Author.Needs.{needs}
 use mathlib.Core.Path.{sym, _∙_}
 use borrow.Author.Tests.{not-true, not-false}
 use Rattle.channelfox.specs.Forms.{readValueForm}
+use borrow.Author.Needs.{needs}
 use Rattle.channelfox.proofs.channelfox_read_value.Statement.{statement}
 use Rattle.channelfox.proofs.channelfox_read_value.Tie as tie
 use Rattle.channelfox.proofs.channelfox_read_value.Reads as reads
@@ -15,9 +15,12 @@ use Rattle.running.proofs.read_value.Reads as read-value-reads
 all-forms-requires : tie.Need-all-forms-requires
 all-forms-requires c κs = search needs
 
+reading-form-requires : tie.Need-reading-form-requires
+reading-form-requires c κs = search needs
+
 returns : tie.Need-returns
 unfolding readValueForm
-returns c = rw (sym (c .before .all-forms .ensures) ∙ not-true _ (c .if1 .taken))
+returns c = c .reading-form .ensures ∙ rw (sym (c .before .before .all-forms .ensures) ∙ not-true _ (c .before .if1 .taken))
 
 run-of-requires : tie.Need-run-of-requires
 run-of-requires c κs = search needs
@@ -25,20 +28,21 @@ run-of-requires c κs = search needs
 read-value-requires : tie.Need-read-value-requires
 read-value-requires c κs = search needs
 
-reading-form-requires : tie.Need-reading-form-requires
-reading-form-requires c κs = search needs
+reading-form-requires-2 : tie.Need-reading-form-requires-2
+reading-form-requires-2 c κs = search needs
 
 returns-2 : tie.Need-returns-2
 unfolding readValueForm
-returns-2 c = c .reading-form .ensures ∙ rw (sym (c .before .before .before .before .all-forms .ensures) ∙ not-false _ (c .before .before .before .if1 .left), c .before .read-value .ensures, c .before .before .run-of .ensures)
+returns-2 c = c .reading-form2 .ensures ∙ rw (sym (c .before .before .before .before .all-forms .ensures) ∙ not-false _ (c .before .before .before .if1 .left), c .before .read-value .ensures, c .before .before .run-of .ensures)
 
 pub channelfox-read-value-spec : {M : Type 1} → statement M
 channelfox-read-value-spec =
     tie.close
     (tie.spec
     all-forms-requires
+    reading-form-requires
     returns
     run-of-requires
     read-value-requires
-    reading-form-requires
+    reading-form-requires-2
     returns-2)

@@ -52,7 +52,7 @@ use denote.Exit.{yes}
 use Rattle.rules.specs.declared.ObjectRow.{ObjectRow}
 use Rattle.rules.specs.declared.Table.{Table}
 use Rattle.rules.specs.StoredTable.{noRow}
-use Rattle.tables.specs.Copied.{padded, copiedOf, emptyOf, placed}
+use Rattle.tables.specs.Copied.{fitted, copiedOf, emptyOf, placed}
 use Rattle.rules.proofs.ObjectRow as T
 use Rattle.rules.proofs.ObjectRow.Laws as T′
 use Rattle.rules.proofs.Table as L
@@ -76,23 +76,23 @@ use Rattle.tables.proofs.copy_rows.Code as code
 use Rattle.tables.proofs.copy_rows.Code.Mir as mir
 
 -- ---- lists
-padded-none : (m : ℕ) → replicate m noRow ≡ padded m []
-unfolding padded
-padded-none zero = refl
-padded-none (suc m) = ap {B = List ObjectRow} (λ rs. noRow ∷ rs) (padded-none m)
+fitted-none : (m : ℕ) → replicate m noRow ≡ fitted m []
+unfolding fitted
+fitted-none zero = refl
+fitted-none (suc m) = ap {B = List ObjectRow} (λ rs. noRow ∷ rs) (fitted-none m)
 
-padded-set : (m i : ℕ) (ys : List ObjectRow) → i < m → i < length ys → set (padded m (take i ys)) i (getD ys i noRow) ≡ padded m (take (suc i) ys)
-unfolding padded
-padded-set zero i ys l k = absurd (not-suc-le-zero l)
-padded-set (suc m) i [] l k = absurd (not-suc-le-zero k)
-padded-set (suc m) zero (y ∷ ys) l k = refl
-padded-set (suc m) (suc i) (y ∷ ys) l k = ap {B = List ObjectRow} (λ rs. y ∷ rs) (padded-set m i ys (le-of-suc-le-suc l) (le-of-suc-le-suc k))
+fitted-set : (m i : ℕ) (ys : List ObjectRow) → i < m → i < length ys → set (fitted m (take i ys)) i (getD ys i noRow) ≡ fitted m (take (suc i) ys)
+unfolding fitted
+fitted-set zero i ys l k = absurd (not-suc-le-zero l)
+fitted-set (suc m) i [] l k = absurd (not-suc-le-zero k)
+fitted-set (suc m) zero (y ∷ ys) l k = refl
+fitted-set (suc m) (suc i) (y ∷ ys) l k = ap {B = List ObjectRow} (λ rs. y ∷ rs) (fitted-set m i ys (le-of-suc-le-suc l) (le-of-suc-le-suc k))
 
-padded-full : (m : ℕ) (ys : List ObjectRow) → padded m (take m ys) ≡ padded m ys
-unfolding padded
-padded-full zero ys = refl
-padded-full (suc m) [] = refl
-padded-full (suc m) (y ∷ ys) = ap {B = List ObjectRow} (λ rs. y ∷ rs) (padded-full m ys)
+fitted-full : (m : ℕ) (ys : List ObjectRow) → fitted m (take m ys) ≡ fitted m ys
+unfolding fitted
+fitted-full zero ys = refl
+fitted-full (suc m) [] = refl
+fitted-full (suc m) (y ∷ ys) = ap {B = List ObjectRow} (λ rs. y ∷ rs) (fitted-full m ys)
 
 take-all : (ys : List ObjectRow) → take (length ys) ys ≡ ys
 take-all [] = refl
@@ -103,21 +103,21 @@ abbrev with-rows : ℕ → List ObjectRow → Table
 with-rows n rs = record { count = n; rows = rs }
 
 abbrev after : List ObjectRow → ℕ → Table
-after ys i = with-rows (length ys) (padded 64 (take i ys))
+after ys i = with-rows (length ys) (fitted 64 (take i ys))
 
 after-none : (ys : List ObjectRow) → emptyOf (length ys) ≡ after ys 0
-after-none ys = ap (with-rows (length ys)) (padded-none 64)
+after-none ys = ap (with-rows (length ys)) (fitted-none 64)
 
 after-one : (ys : List ObjectRow) (i : ℕ) → i < 64 → i < length ys → placed (after ys i) i (getD ys i noRow) ≡ after ys (i + 1)
-after-one ys i l k = ap (with-rows (length ys)) (padded-set 64 i ys l k ∙ ap (λ (j : ℕ). padded 64 (take j ys)) (sym (add-one i)))
+after-one ys i l k = ap (with-rows (length ys)) (fitted-set 64 i ys l k ∙ ap (λ (j : ℕ). fitted 64 (take j ys)) (sym (add-one i)))
 
 abbrev Least : ℕ → ℕ → Type 0
 Least n r = (r ≤ 64) × (r ≤ n) × (r < 64 → r ≡ n)
 
 after-all : (ys : List ObjectRow) (n : ℕ) → Least (length ys) n → after ys n ≡ copiedOf ys
 after-all ys n f = ap (with-rows (length ys)) (elim (eq-or-lt-of-le (f .0)) [
-  | inl e ↦ ap (λ (j : ℕ). padded 64 (take j ys)) e ∙ padded-full 64 ys
-  | inr l ↦ ap (λ (j : ℕ). padded 64 (take j ys)) (f .2 l) ∙ ap (padded 64) (take-all ys)
+  | inl e ↦ ap (λ (j : ℕ). fitted 64 (take j ys)) e ∙ fitted-full 64 ys
+  | inr l ↦ ap (λ (j : ℕ). fitted 64 (take j ys)) (f .2 l) ∙ ap (fitted 64) (take-all ys)
 ])
 
 holds : (t : Bool) → T t → t ≡ true

@@ -15,12 +15,12 @@ records-start-requires c κs = search needs
 records-count-requires : tie.Need-records-count-requires
 records-count-requires c κs = search needs
 
-mul-length : tie.Need-mul-length
-mul-length c = let r = readable (c .before .before .before .args .bytes .now) (c .before .before .before .pre) in omega (arith, c .records-count .ensures)
+mul-size : tie.Need-mul-size
+mul-size c = let r = readable (c .before .before .before .args .bytes .now) (c .before .before .before .pre) in omega (arith, c .records-count .ensures)
 
 returns : tie.Need-returns
 returns c = rw (c .records-count .ensures, c .before .records-start .ensures)
 
 pub records-part-spec : {M : Type 1} → statement M
 records-part-spec =
-    tie.close (tie.spec records-start-requires records-count-requires mul-length returns)
+    tie.close (tie.spec records-start-requires records-count-requires mul-size returns)

@@ -5,22 +5,26 @@ use mathlib.Core.List.{_++_}
 use native.Mathlib.Omega.{arith}
 use borrow.Author.Needs.{needs}
 use lib.ListN.{replicate}
-use Rattle.rules.specs.StoredTable.{noRow, rowOf, recordsOf}
+use Rattle.rules.specs.StoredTable.{noRow, padded, rowOf, recordsOf}
 use Rattle.tables.proofs.Filling.{fill-next}
 use Rattle.tables.proofs.rows_from.Statement.{statement}
 use Rattle.tables.proofs.rows_from.Tie as tie
 use Rattle.tables.proofs.rows_from.Reads as reads
 use Rattle.tables.proofs.rows_from.Lts as lts
+use Rattle.rules.proofs.empty_row.Reads as empty-row-reads
 use Rattle.tables.proofs.row_at.Reads as row-at-reads
 
 abbrev Inv-loop : tie.InvT-loop
-Inv-loop bytes start count rows₀ n₀ rows n = (n ≤ count) × (rows ≡ recordsOf rowOf bytes start n ++ replicate (64 - n) noRow)
+Inv-loop bytes start count rows₀ n₀ rows n = (n ≤ count) × (rows ≡ padded n noRow (recordsOf rowOf bytes start n))
 
 abbrev μ-loop : tie.MeasureT-loop
 μ-loop bytes start count rows₀ n₀ rows n = count - n
 
+empty-row-requires : tie.Need-empty-row-requires Inv-loop μ-loop
+empty-row-requires c κs = search needs
+
 loop-holds : tie.Need-loop-holds Inv-loop μ-loop
-loop-holds c = (search needs, refl)
+loop-holds c = (search needs, rw (c .empty-row .ensures))
 
 mul-row-at : tie.Need-mul-row-at Inv-loop μ-loop
 mul-row-at c = search needs
@@ -46,13 +50,13 @@ loop-less c = search needs
 loop-again : tie.Need-loop-again Inv-loop μ-loop
 loop-again c =
     let l = c .before .before in
-    let a = l .before .before .args in
+    let a = l .before .before .before .args in
     (search needs, rw (c .row-at .ensures, l .loop .inv .1) (fill-next rowOf noRow (a .bytes .now) (a .start) (l .loop .n) (search needs)))
 
 returns : tie.Need-returns Inv-loop μ-loop
 returns c =
     let l = c .before in
-    let e : l .loop .n ≡ l .before .before .args .count = omega arith in
+    let e : l .loop .n ≡ l .before .before .before .args .count = omega arith in
     rw e at (l .loop .inv .1)
 
 pub rows-from-spec : {M : Type 1} → statement M
@@ -61,6 +65,7 @@ rows-from-spec =
     (tie.spec
     Inv-loop
     μ-loop
+    empty-row-requires
     loop-holds
     mul-row-at
     add-row-at

@@ -5,7 +5,7 @@ use mathlib.Core.List.{_++_}
 use native.Mathlib.Omega.{arith}
 use borrow.Author.Needs.{needs}
 use lib.ListN.{replicate}
-use Rattle.rules.specs.StoredTable.{spareOf, recordsOf}
+use Rattle.rules.specs.StoredTable.{padded, spareOf, recordsOf}
 use Rattle.tables.proofs.Filling.{fill-next}
 use Rattle.tables.proofs.spares_from.Statement.{statement}
 use Rattle.tables.proofs.spares_from.Tie as tie
@@ -14,7 +14,7 @@ use Rattle.tables.proofs.spares_from.Lts as lts
 use Rattle.tables.proofs.read16.Reads as read16-reads
 
 abbrev Inv-loop : tie.InvT-loop
-Inv-loop bytes start count spares₀ n₀ spares n = (n ≤ count) × (spares ≡ recordsOf spareOf bytes start n ++ replicate (64 - n) 0)
+Inv-loop bytes start count spares₀ n₀ spares n = (n ≤ count) × (spares ≡ padded n 0 (recordsOf spareOf bytes start n))
 
 abbrev μ-loop : tie.MeasureT-loop
 μ-loop bytes start count spares₀ n₀ spares n = count - n

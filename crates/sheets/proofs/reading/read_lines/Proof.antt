@@ -10,8 +10,9 @@ use Rattle.sheets.proofs.reading.read_lines.Statement.{statement}
 use Rattle.sheets.proofs.reading.read_lines.Tie as tie
 use Rattle.sheets.proofs.reading.read_lines.Reads as reads
 use Rattle.sheets.proofs.reading.read_lines.Lts as lts
-use Rattle.rules.proofs.empty_table.Reads as empty-table-reads
-use Rattle.sheets.proofs.reading.checked.Reads as checked-reads
+use Rattle.rules.proofs.empty_row.Reads as empty-row-reads
+use Rattle.rules.proofs.refused_read.Reads as refused-read-reads
+use Rattle.rules.proofs.check_answer.Reads as check-answer-reads
 use Rattle.sheets.proofs.reading.read_line.Reads as read-line-reads
 
 abbrev Inv-loop : tie.InvT-loop
@@ -20,8 +21,11 @@ Inv-loop bytes rows₀ count₀ at₀ rows count at = Walked bytes rows count at
 abbrev μ-loop : tie.MeasureT-loop
 μ-loop bytes rows₀ count₀ at₀ rows count at = length bytes - at
 
+empty-row-requires : tie.Need-empty-row-requires Inv-loop μ-loop
+empty-row-requires c κs = search needs
+
 loop-holds : tie.Need-loop-holds Inv-loop μ-loop
-loop-holds c = walked-none (c .before .args .bytes .now)
+loop-holds c = rw (c .empty-row .ensures) (walked-none (c .before .before .args .bytes .now))
 
 read-line-requires : tie.Need-read-line-requires Inv-loop μ-loop
 read-line-requires c κs = c .before .loop .inv .within
@@ -32,11 +36,11 @@ enum-known-line c = search needs
 enum-told : tie.Need-enum-told Inv-loop μ-loop
 enum-told c = search needs
 
-empty-table-requires : tie.Need-empty-table-requires Inv-loop μ-loop
-empty-table-requires c κs = search needs
+refused-read-requires : tie.Need-refused-read-requires Inv-loop μ-loop
+refused-read-requires c κs = search needs
 
 returns : tie.Need-returns Inv-loop μ-loop
-returns c = rw (c .empty-table .ensures) (bad-line (c .before .before .before .before .before .loop .inv) (c .before .before .before .before .loop-test .taken) (rw (c .before .enum-told .given .1) at (c .before .before .before .read-line .ensures)))
+returns c = c .refused-read .ensures ∙ bad-line (c .before .before .before .before .before .loop .inv) (c .before .before .before .before .loop-test .taken) (rw (c .before .enum-told .given .1) at (c .before .before .before .read-line .ensures))
 
 mul-rows : tie.Need-mul-rows Inv-loop μ-loop
 mul-rows c = search needs
@@ -45,7 +49,7 @@ array-set-from-rows : tie.Need-array-set-from-rows Inv-loop μ-loop
 array-set-from-rows c = search needs
 
 add-count : tie.Need-add-count Inv-loop μ-loop
-add-count c = let big : length (c .before .before .before .before .before .before .before .before .args .bytes .now) < 18446744073709551616 = search needs in omega (arith, big, c .before .before .before .before .before .before .loop .inv .fewer, c .before .before .before .before .before .loop-test .taken)
+add-count c = let big : length (c .before .before .before .before .before .before .before .before .before .args .bytes .now) < 18446744073709551616 = search needs in omega (arith, big, c .before .before .before .before .before .before .loop .inv .fewer, c .before .before .before .before .before .loop-test .taken)
 
 loop-less : tie.Need-loop-less Inv-loop μ-loop
 loop-less c =
@@ -63,11 +67,11 @@ loop-again c =
       | inr t ↦ walked-full w more next (line .0) (line .1 .0) (line .1 .1) (t .0 .left) (t .1)
     ]
 
-checked-requires : tie.Need-checked-requires Inv-loop μ-loop
-checked-requires c κs = search needs
+check-answer-requires : tie.Need-check-answer-requires Inv-loop μ-loop
+check-answer-requires c κs = search needs
 
 returns-2 : tie.Need-returns-2 Inv-loop μ-loop
-returns-2 c = c .checked .ensures ∙ all-read (c .before .before .loop .inv) (c .before .loop-test .left)
+returns-2 c = c .check-answer .ensures ∙ all-read (c .before .before .loop .inv) (c .before .loop-test .left)
 
 pub read-lines-spec : {M : Type 1} → statement M
 read-lines-spec =
@@ -75,16 +79,17 @@ read-lines-spec =
     (tie.spec
     Inv-loop
     μ-loop
+    empty-row-requires
     loop-holds
     read-line-requires
     enum-known-line
     enum-told
-    empty-table-requires
+    refused-read-requires
     returns
     mul-rows
     array-set-from-rows
     add-count
     loop-less
     loop-again
-    checked-requires
+    check-answer-requires
     returns-2)

@@ -1,15 +1,16 @@
 -- `tables::write` meets its contract: each return is one case. Assumes nothing.
 use Prim.Native.Nat.{ℕ, _*_}
-use mathlib.Core.Path.{_≡_, sym, ap, _∙_}
+use mathlib.Core.Path.{_≡_, refl, sym, ap, _∙_}
 use mathlib.Core.List.{List}
 use native.Mathlib.Omega.{arith}
 use denote.Ref.{now}
 use lib.ListN.{length, length-map}
 use lib.Seq.{sets, length-sets}
-use Rattle.rules.specs.StoredTable.{rowsIn}
-use Rattle.rules.specs.Writing.{recordsBytes, trailerBytes}
+use Rattle.rules.specs.StoredTable.{recordSize, tableSize, rowsIn, tableVerdict}
+use Rattle.rules.specs.Writing.{recordsBytes, trailerBytes, tableBytes}
 use Rattle.rules.proofs.Checks.{few-rows}
-use Rattle.tables.proofs.Wrote.{rows-refused, room-refused, all-written}
+use Rattle.rules.proofs.Put.{rows-refused, room-refused, all-put}
+use Rattle.tables.proofs.Wrote.{table-size, records-trailer}
 use borrow.Author.Needs.{needs}
 use Rattle.tables.proofs.writing.write.Statement.{statement}
 use Rattle.tables.proofs.writing.write.Tie as tie
@@ -31,7 +32,7 @@ enum-told-2 c = search needs
 returns : tie.Need-returns
 returns c =
     let a = c .before .before .before .before .args in
-    rows-refused (a .table) (now (a .buffer)) _ _ (sym (c .before .before .check-table .ensures)) (c .enum-told2 .given .1)
+    rows-refused (tableVerdict (a .table)) (tableSize (a .table .count)) (tableBytes (rowsIn (a .table))) (now (a .buffer)) _ _ (sym (c .before .before .check-table .ensures)) (c .enum-told2 .given .1)
 
 mul-records : tie.Need-mul-records
 mul-records c = omega (arith, few-rows (c .before .before .before .before .args .table) (sym (c .before .before .check-table .ensures) ∙ c .enum-told .given .1))
@@ -40,7 +41,7 @@ add-if1 : tie.Need-add-if1
 add-if1 c = omega (arith, few-rows (c .before .before .before .before .args .table) (sym (c .before .before .check-table .ensures) ∙ c .enum-told .given .1))
 
 returns-2 : tie.Need-returns-2
-returns-2 c = let a = c .before .before .before .before .before .args in room-refused (a .table) (now (a .buffer)) (sym (c .before .before .before .check-table .ensures) ∙ c .before .enum-told .given .1) (c .if1 .taken)
+returns-2 c = let a = c .before .before .before .before .before .args in room-refused (tableVerdict (a .table)) (tableSize (a .table .count)) (tableBytes (rowsIn (a .table))) (now (a .buffer)) (sym (c .before .before .before .check-table .ensures) ∙ c .before .enum-told .given .1) refl (c .if1 .taken)
 
 put-records-requires : tie.Need-put-records-requires
 put-records-requires c κs = let few = few-rows (c .before .before .before .before .before .before .before .args .table) (sym (c .before .before .before .before .before .check-table .ensures) ∙ c .before .before .before .enum-told .given .1) in (few, omega (arith, c .before .before .if1 .left))
@@ -62,8 +63,10 @@ returns-3 : tie.Need-returns-3
 returns-3 c =
     let a = c .before .before .before .before .before .before .before .before .before .before .before .before .before .before .args in
     let long = simp length-map at (c .before .before .before .before .before .before .before .before .before .before .before .before .before .before .good .0 .1 .1 .1 .0 .1 .0 .1) in
-    let put = c .before .before .put-trailer .ensures ∙ ap (λ (s : List ℕ). sets s (12 * a .table .count) (trailerBytes (a .table .count))) (c .before .before .before .before .before .before .put-records .ensures) in
-    all-written (a .table) (now (a .buffer)) (sym (c .before .before .before .before .before .before .before .before .before .before .before .before .check-table .ensures) ∙ c .before .before .before .before .before .before .before .before .before .before .enum-told .given .1) (c .before .before .before .before .before .before .before .before .before .before .enum-told .given .1) long (c .before .before .before .before .before .before .before .before .before .if1 .left) put
+    let put = c .before .before .put-trailer .ensures ∙ ap (λ (s : List ℕ). sets s (recordSize * a .table .count) (trailerBytes (a .table .count))) (c .before .before .before .before .before .before .put-records .ensures) in
+    let ok = c .before .before .before .before .before .before .before .before .before .before .enum-told .given .1 in
+    let formed = sym (c .before .before .before .before .before .before .before .before .before .before .before .before .check-table .ensures) ∙ ok in
+    all-put (tableVerdict (a .table)) (tableSize (a .table .count)) (tableBytes (rowsIn (a .table))) (now (a .buffer)) formed refl ok (table-size (a .table) formed long) (c .before .before .before .before .before .before .before .before .before .if1 .left) (records-trailer (a .table) formed long (now (a .buffer)) put)
 
 pub write-spec : {M : Type 1} → statement M
 write-spec =

@@ -1,0 +1,58 @@
+-- Each number names one refusal, so what is told settles the verdict. Assumes nothing.
+use Prim.Native.Nat.{ℕ}
+use mathlib.Core.Path.{_≡_, refl, sym, ap, _∙_}
+use mathlib.Core.List.{List, [], _∷_}
+use lib.ListN.{getD}
+use Rattle.rules.specs.declared.Refusal.the-variants.{TooShort, TooLong, WrongMark, CountRange, DistanceSmall, SpareUsed, CostRange, ValidityRange, IdRepeated, NoDeadline, FirstsCount, FirstRange, NotRunState, NoSuchId, DistanceLarge, BufferSmall, LineForm}
+use Rattle.rules.specs.declared.Verdict.{Verdict}
+use Rattle.rules.specs.declared.Verdict.the-variants.{Accepted, Refused}
+use Rattle.rules.specs.Refusals.{Told, told}
+
+-- the verdicts at a place, by their numbers
+abbrev verdicts : ℕ → List Verdict
+verdicts k =
+    Accepted
+    ∷ Refused TooShort k
+    ∷ Refused TooLong k
+    ∷ Refused WrongMark k
+    ∷ Refused CountRange k
+    ∷ Refused DistanceSmall k
+    ∷ Refused SpareUsed k
+    ∷ Refused CostRange k
+    ∷ Refused ValidityRange k
+    ∷ Refused IdRepeated k
+    ∷ Refused NoDeadline k
+    ∷ Refused FirstsCount k
+    ∷ Refused FirstRange k
+    ∷ Refused NotRunState k
+    ∷ Refused NoSuchId k
+    ∷ Refused DistanceLarge k
+    ∷ Refused BufferSmall k
+    ∷ Refused LineForm k
+    ∷ []
+
+abbrev verdictOf : Told → Verdict
+verdictOf t = getD (verdicts (t .place)) (t .number) Accepted
+
+named : (v : Verdict) → verdictOf (told v) ≡ v
+named Accepted = refl
+named (Refused TooShort k) = refl
+named (Refused TooLong k) = refl
+named (Refused WrongMark k) = refl
+named (Refused CountRange k) = refl
+named (Refused DistanceSmall k) = refl
+named (Refused SpareUsed k) = refl
+named (Refused CostRange k) = refl
+named (Refused ValidityRange k) = refl
+named (Refused IdRepeated k) = refl
+named (Refused NoDeadline k) = refl
+named (Refused FirstsCount k) = refl
+named (Refused FirstRange k) = refl
+named (Refused NotRunState k) = refl
+named (Refused NoSuchId k) = refl
+named (Refused DistanceLarge k) = refl
+named (Refused BufferSmall k) = refl
+named (Refused LineForm k) = refl
+
+pub told-settles : {v w : Verdict} → told v ≡ told w → v ≡ w
+told-settles {v} {w} e = sym (named v) ∙ (ap verdictOf e ∙ named w)

@@ -1,0 +1,16 @@
+-- `tables::empty_of` meets its contract. Assumes nothing.
+use borrow.Author.Needs.{needs}
+use Rattle.tables.proofs.empty_of.Statement.{statement}
+use Rattle.tables.proofs.empty_of.Tie as tie
+use Rattle.tables.proofs.empty_of.Reads as reads
+use Rattle.tables.proofs.empty_of.Lts as lts
+use Rattle.rules.proofs.empty_row.Reads as empty-row-reads
+
+empty-row-requires : tie.Need-empty-row-requires
+empty-row-requires c κs = search needs
+
+returns : tie.Need-returns
+returns c = rw (c .empty-row .ensures)
+
+pub empty-of-spec : {M : Type 1} → statement M
+empty-of-spec = tie.close (tie.spec empty-row-requires returns)

@@ -3,6 +3,7 @@ mod planning_cases;
 mod reading;
 mod run_cases;
 mod state_cases;
+mod titles;
 
 fn main() {
     reading::cases();

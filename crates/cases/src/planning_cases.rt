@@ -1,4 +1,5 @@
 // Document 01's numbers for the planner, those that are run and not proved among them.
+use crate::titles::say;
 use rules::ObjectRow;
 use rules::Plan;
 use rules::Table;
@@ -24,21 +25,21 @@ fn print_rows(plan: Plan) {
     for i in 0..64usize {
         if i < plan.count {
             let one = plan.rows[i];
-            printing::text(b" ");
+            printing::byte(b' ');
             printing::number(one.id as u64);
-            printing::text(b" (");
+            say(27); // (
             printing::number(one.deadline as u64);
-            printing::text(b",");
+            printing::byte(b',');
             printing::number(one.period as u64);
-            printing::text(b")");
+            printing::byte(b')');
         }
     }
 }
 
 // One table: what it is, and its plan or the refusal.
-fn plan_case(name: &[u8], table: Table) {
-    printing::text(name);
-    printing::text(b":");
+fn plan_case(title: usize, table: Table) {
+    say(title);
+    printing::byte(b':');
     let planned = planning::plan_table(table);
     let verdict = planned.verdict;
     match verdict {
@@ -47,23 +48,23 @@ fn plan_case(name: &[u8], table: Table) {
             print_rows(plan);
         }
         Verdict::Refused(refusal, place) => {
-            printing::text(b" ");
+            printing::byte(b' ');
             printing::refused(refusal, place);
         }
     }
-    printing::text(b"\n");
+    printing::byte(b'\n');
 }
 
 // One or two objects, ids 1 and 2.
-fn one(name: &[u8], cost: u32, validity: u32) {
+fn one(title: usize, cost: u32, validity: u32) {
     let unread = row(9, 0, 0);
-    plan_case(name, table(1, row(1, cost, validity), unread, unread));
+    plan_case(title, table(1, row(1, cost, validity), unread, unread));
 }
 
-fn two(name: &[u8], cost: u32, validity: u32, other_cost: u32, other_validity: u32) {
+fn two(title: usize, cost: u32, validity: u32, other_cost: u32, other_validity: u32) {
     let unread = row(9, 0, 0);
     plan_case(
-        name,
+        title,
         table(
             2,
             row(1, cost, validity),
@@ -75,59 +76,59 @@ fn two(name: &[u8], cost: u32, validity: u32, other_cost: u32, other_validity: u
 
 // The tables of documents 000 and 002.
 fn papers() {
-    two(b"(1,3), (2,20)", 1, 3, 2, 20);
+    two(28, 1, 3, 2, 20); // (1,3), (2,20)
     plan_case(
-        b"(1,8), (1,10), (1,12)",
+        29, // (1,8), (1,10), (1,12)
         table(3, row(1, 1, 8), row(2, 1, 10), row(3, 1, 12)),
     );
     plan_case(
-        b"(2,8), (2,10), (2,12)",
+        30, // (2,8), (2,10), (2,12)
         table(3, row(1, 2, 8), row(2, 2, 10), row(3, 2, 12)),
     );
     plan_case(
-        b"(2,8), (2,10), (2,11)",
+        31, // (2,8), (2,10), (2,11)
         table(3, row(1, 2, 8), row(2, 2, 10), row(3, 2, 11)),
     );
 }
 
 // One object, two objects, and the limits of a cost.
 fn limits() {
-    one(b"(1,2)", 1, 2);
-    two(b"(1,2), (1,1000000)", 1, 2, 1, 1000000);
-    one(b"(500000,1000000)", 500000, 1000000);
-    one(b"(500001,1000000)", 500001, 1000000);
+    one(32, 1, 2); // (1,2)
+    two(33, 1, 2, 1, 1000000); // (1,2), (1,1000000)
+    one(34, 500000, 1000000); // (500000,1000000)
+    one(35, 500001, 1000000); // (500001,1000000)
 }
 
 // Ties; of three objects the one in the middle, in priority order, has no deadline.
 fn ties() {
-    two(b"(1,3), (1,4)", 1, 3, 1, 4);
-    two(b"(1,3), (1,3)", 1, 3, 1, 3);
+    two(36, 1, 3, 1, 4); // (1,3), (1,4)
+    two(37, 1, 3, 1, 3); // (1,3), (1,3)
     plan_case(
-        b"(1,100), (1,3), (1,3)",
+        38, // (1,100), (1,3), (1,3)
         table(3, row(1, 1, 100), row(2, 1, 3), row(3, 1, 3)),
     );
-    two(b"id 1 (1,10), id 2 (3,10)", 1, 10, 3, 10);
+    two(39, 1, 10, 3, 10); // id 1 (1,10), id 2 (3,10)
 }
 
 // Rows that are refused before they are planned.
 fn refusals() {
-    one(b"cost 0", 0, 10);
-    one(b"validity 1000001", 1, 1000001);
+    one(40, 0, 10); // cost 0
+    one(41, 1, 1000001); // validity 1000001
     plan_case(
-        b"count 0",
+        10, // count 0
         table(0, row(1, 1, 10), row(2, 1, 10), row(3, 1, 10)),
     );
     plan_case(
-        b"count 65",
+        11, // count 65
         table(65, row(1, 1, 10), row(2, 1, 10), row(3, 1, 10)),
     );
     plan_case(
-        b"equal ids in the first and the third row",
+        42, // equal ids in the first and the third row
         table(3, row(1, 1, 10), row(2, 1, 10), row(1, 1, 10)),
     );
 }
 
-pub fn cases() {
+pub(crate) fn cases() {
     papers();
     limits();
     ties();

@@ -1,19 +1,20 @@
 // Document 01's numbers for the run: worked runs, and refused starts and readings.
 use crate::planning_cases::row;
 use crate::planning_cases::table;
+use crate::titles::say;
 use rules::Reading;
 use rules::Run;
 use rules::Started;
 use rules::Verdict;
 
 // What a reading by id says.
-pub fn print_reading(run: Run, id: u16) {
+pub(crate) fn print_reading(run: Run, id: u16) {
     let reading = running::read_value(run, id);
     match reading {
-        Reading::Never => printing::text(b"none"),
-        Reading::Stale => printing::text(b"stale"),
+        Reading::Never => say(43), // none
+        Reading::Stale => say(44), // stale
         Reading::Fresh(age) => {
-            printing::text(b"fresh, age ");
+            say(45); // fresh, age
             printing::number(age as u64);
         }
         Reading::Refused(refusal, place) => printing::refused(refusal, place),
@@ -22,18 +23,18 @@ pub fn print_reading(run: Run, id: u16) {
 
 // The clock, and of each of the first three objects the work left and the skips.
 fn print_state(run: Run) {
-    printing::text(b"clock ");
+    say(46); // clock
     printing::number(run.clock as u64);
     for i in 0..3usize {
         if i < run.count {
             let one = run.rows[i];
-            printing::text(b", left ");
+            say(47); // , left
             printing::number(one.left as u64);
-            printing::text(b" skips ");
+            say(48); // skips
             printing::number(one.skips as u64);
         }
     }
-    printing::text(b"\n");
+    printing::byte(b'\n');
 }
 
 // One slot of each byte, with the state after each.
@@ -53,7 +54,8 @@ fn figure_two() {
     let rows = table(3, row(1, 2, 8), row(2, 2, 10), row(3, 2, 12));
     let started = running::start(rows, 0, &[2, 1, 0]);
     let run = started.run;
-    printing::text(b"002's set, first releases 2, 1, 0\n");
+    say(49); // 002's set, first releases 2, 1, 0
+    printing::byte(b'\n');
     print_state(run);
     print_slots(run, &[0, 0, 0, 0, 0, 0]);
 }
@@ -63,13 +65,14 @@ fn stolen_slots() {
     let unread = row(9, 0, 0);
     let started = running::start(table(1, row(1, 1, 2), unread, unread), 0, &[0]);
     let run = started.run;
-    printing::text(b"(1,2), slots 0 to 2 stolen\n");
+    say(50); // (1,2), slots 0 to 2 stolen
+    printing::byte(b'\n');
     let at_four = print_slots(run, &[1, 1, 1, 0]);
     print_reading(at_four, 1);
-    printing::text(b"\n");
+    printing::byte(b'\n');
     let at_five = print_slots(at_four, &[0]);
     print_reading(at_five, 1);
-    printing::text(b"\n");
+    printing::byte(b'\n');
 }
 
 // (1,4) started at clock 4,294,967,295: after one slot, clock 0, fresh, age 1.
@@ -77,59 +80,60 @@ fn wrapped() {
     let unread = row(9, 0, 0);
     let started = running::start(table(1, row(1, 1, 4), unread, unread), 4294967295, &[0]);
     let run = started.run;
-    printing::text(b"(1,4) at clock 4294967295\n");
+    say(51); // (1,4) at clock 4294967295
+    printing::byte(b'\n');
     print_reading(run, 1);
-    printing::text(b"\n");
+    printing::byte(b'\n');
     let after = print_slots(run, &[0]);
     print_reading(after, 1);
-    printing::text(b"\n");
+    printing::byte(b'\n');
     print_reading(after, 2);
-    printing::text(b"\n");
+    printing::byte(b'\n');
 }
 
 // One start: "accepted" or the refusal, and the count of what came back.
-fn print_start(name: &[u8], started: Started) {
-    printing::text(name);
-    printing::text(b": ");
+fn print_start(title: usize, started: Started) {
+    say(title);
+    say(0);
     let verdict = started.verdict;
     match verdict {
-        Verdict::Accepted => printing::text(b"accepted"),
+        Verdict::Accepted => say(1), // accepted
         Verdict::Refused(refusal, place) => printing::refused(refusal, place),
     }
-    printing::text(b", objects ");
+    say(52); // , objects
     printing::number(started.run.count as u64);
-    printing::text(b"\n");
+    printing::byte(b'\n');
 }
 
 // Starts of 002's set, good and bad.
 fn starts() {
     let rows = table(3, row(1, 2, 8), row(2, 2, 10), row(3, 2, 12));
     print_start(
-        b"first releases 5, 5, 5",
+        53, // first releases 5, 5, 5
         running::start(rows, 7, &[5, 5, 5]),
     );
-    print_start(b"two first releases", running::start(rows, 7, &[0, 0]));
+    print_start(54, running::start(rows, 7, &[0, 0])); // two first releases
     print_start(
-        b"four first releases",
+        55, // four first releases
         running::start(rows, 7, &[0, 0, 0, 0]),
     );
     print_start(
-        b"first releases 5, 6, 7",
+        56, // first releases 5, 6, 7
         running::start(rows, 7, &[5, 6, 7]),
     );
     let late = table(3, row(1, 2, 8), row(2, 2, 10), row(3, 2, 11));
     print_start(
-        b"no deadline, two first releases",
+        57, // no deadline, two first releases
         running::start(late, 7, &[0, 0]),
     );
     let twice = table(3, row(1, 2, 8), row(2, 2, 10), row(1, 2, 12));
     print_start(
-        b"equal ids, two first releases",
+        58, // equal ids, two first releases
         running::start(twice, 7, &[0, 0]),
     );
 }
 
-pub fn cases() {
+pub(crate) fn cases() {
     figure_two();
     stolen_slots();
     wrapped();

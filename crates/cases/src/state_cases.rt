@@ -2,6 +2,7 @@
 use crate::planning_cases::row;
 use crate::planning_cases::table;
 use crate::run_cases::print_reading;
+use crate::titles::say;
 use rules::PlanRow;
 use rules::Run;
 use rules::RunRow;
@@ -71,86 +72,86 @@ fn with_stored(stored: Stored) -> Run {
 }
 
 // What a step and a reading say of the state.
-fn state_case(name: &[u8], run: Run) {
-    printing::text(name);
-    printing::text(b": ");
+fn state_case(title: usize, run: Run) {
+    say(title);
+    say(0);
     let stepped = running::slot(run, false);
     let verdict = stepped.verdict;
     match verdict {
-        Verdict::Accepted => printing::text(b"accepted"),
+        Verdict::Accepted => say(1), // accepted
         Verdict::Refused(refusal, place) => printing::refused(refusal, place),
     }
-    printing::text(b", clock ");
+    say(59); // , clock
     printing::number(stepped.run.clock as u64);
-    printing::text(b", reading ");
+    say(60); // , reading
     print_reading(run, 1);
-    printing::text(b"\n");
+    printing::byte(b'\n');
 }
 
 // The count and the ids.
 fn counts() {
-    state_case(b"the good state", good());
+    state_case(61, good()); // the good state
     let mut none = good();
     none.count = 0;
-    state_case(b"count 0", none);
+    state_case(10, none); // count 0
     let mut many = good();
     many.count = 65;
-    state_case(b"count 65", many);
-    state_case(b"equal ids", with_plan(2, 2, 8, 2, 6));
+    state_case(11, many); // count 65
+    state_case(62, with_plan(2, 2, 8, 2, 6)); // equal ids
 }
 
 // The planned numbers.
 fn plans() {
-    state_case(b"cost 0", with_plan(1, 0, 8, 2, 6));
-    state_case(b"cost above the deadline", with_plan(1, 3, 8, 2, 6));
-    state_case(b"deadline above the period", with_plan(1, 2, 8, 5, 3));
+    state_case(40, with_plan(1, 0, 8, 2, 6)); // cost 0
+    state_case(63, with_plan(1, 3, 8, 2, 6)); // cost above the deadline
+    state_case(64, with_plan(1, 2, 8, 5, 3)); // deadline above the period
     state_case(
-        b"deadline plus period below the validity",
+        65, // deadline plus period below the validity
         with_plan(1, 2, 9, 2, 6),
     );
 }
 
 // The largest validity.
 fn validities() {
-    state_case(b"validity 1000000", with_plan(1, 2, 1000000, 2, 999998));
-    state_case(b"validity 1000001", with_plan(1, 2, 1000001, 2, 999999));
+    state_case(66, with_plan(1, 2, 1000000, 2, 999998)); // validity 1000000
+    state_case(41, with_plan(1, 2, 1000001, 2, 999999)); // validity 1000001
 }
 
 // Release and work.
 fn jobs() {
     let mut far = first_row();
     far.next = 109;
-    state_case(b"next release a period away", with_first(far));
+    state_case(67, with_first(far)); // next release a period away
     let mut busy = second_row();
     busy.left = 3;
-    state_case(b"work left above the cost", with_second(busy));
+    state_case(68, with_second(busy)); // work left above the cost
 }
 
 // Samples, stored and in hand.
 fn samples() {
-    state_case(b"held sample of age 7", with_stored(Stored::Held(96)));
-    state_case(b"held sample of age 8", with_stored(Stored::Held(95)));
+    state_case(69, with_stored(Stored::Held(96))); // held sample of age 7
+    state_case(70, with_stored(Stored::Held(95))); // held sample of age 8
     let mut old = second_row();
     old.sample = 93;
-    state_case(b"sample in hand of age 10", with_second(old));
+    state_case(71, with_second(old)); // sample in hand of age 10
     old.lapsed = true;
-    state_case(b"the same, lapsed", with_second(old));
+    state_case(72, with_second(old)); // the same, lapsed
 }
 
 // No work left, and the rows beyond the count.
 fn rests() {
     let mut sampled = first_row();
     sampled.sample = 1;
-    state_case(b"no work left, sample 1", with_first(sampled));
+    state_case(73, with_first(sampled)); // no work left, sample 1
     let mut lapsed = first_row();
     lapsed.lapsed = true;
-    state_case(b"no work left, lapsed", with_first(lapsed));
+    state_case(74, with_first(lapsed)); // no work left, lapsed
     let mut beyond = good();
     beyond.rows[63].skips = 1;
-    state_case(b"a skip beyond the count", beyond);
+    state_case(75, beyond); // a skip beyond the count
 }
 
-pub fn cases() {
+pub(crate) fn cases() {
     counts();
     plans();
     validities();

@@ -1,12 +1,10 @@
 -- The C forms of answers and runs, and that the way there and back loses nothing. Assumes nothing.
 -- Enums and bools are numbers in C: a verdict is number and place (0 and 0 where accepted), a stored value its kind and what it holds.
-use Prim.Native.Nat.{ℕ, zero, suc, _≤_}
-use mathlib.Core.Path.{_≡_, refl, sym, ap, ap₂, _∙_}
-use mathlib.Core.Bool.{Bool, true, false, cond, not, _&&_, _||_}
+use Prim.Native.Nat.{ℕ}
+use mathlib.Core.Bool.{Bool, true, cond, not, _&&_, _||_}
 use mathlib.Core.List.{List, [], _∷_, map}
 use lib.Dec.{eqb, leb}
 use Rattle.rules.specs.declared.Part.{Part}
-use Rattle.rules.specs.declared.PlanRow.{PlanRow}
 use Rattle.rules.specs.declared.Planned.{Planned}
 use Rattle.rules.specs.declared.ReadTable.{ReadTable}
 use Rattle.rules.specs.declared.Reading.{Reading}
@@ -22,7 +20,7 @@ use Rattle.rules.specs.declared.Refusal.the-variants.{NotRunState}
 use Rattle.rules.specs.declared.Verdict.the-variants.{Refused}
 use Rattle.rules.specs.declared.Written.{Written}
 use Rattle.rules.specs.Refusals.{Told, told, readingTold}
-use Rattle.rules.specs.Deadlines.{noPlan, onAccepted, planOf}
+use Rattle.rules.specs.Deadlines.{onAccepted, planOf}
 use Rattle.rules.specs.Run.{steppedOf, advancedOf, readingOf}
 use Rattle.channelfox.specs.declared.CPart.{CPart}
 use Rattle.channelfox.specs.declared.CPlanAnswer.{CPlanAnswer}

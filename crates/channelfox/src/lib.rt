@@ -85,7 +85,9 @@ pub struct CRunAnswer {
 
 // What a reading says: no value yet, a stale one, or a fresh one.
 const NEVER: u32 = 0;
+
 const STALE: u32 = 1;
+
 const FRESH: u32 = 2;
 
 // A reading: which value, and the age of a fresh one; NEVER and 0 where refused.

@@ -120,7 +120,7 @@ fn print_refusal(name: &[u8], verdict: Verdict, ranked: Table) {
                 printing::text(b", the object with id ");
                 printing::number(row.id as u64);
             }
-            printing::text(b"\n");
+            printing::byte(b'\n');
         }
     }
 }
@@ -150,7 +150,7 @@ fn answer(bytes: &[u8]) {
     match verdict {
         Verdict::Refused(refusal, place) => {
             printing::refused(refusal, place);
-            printing::text(b"\n");
+            printing::byte(b'\n');
         }
         Verdict::Accepted => {
             let table = read.table;

@@ -1,7 +1,7 @@
 -- A stored table has at most 776 bytes. Assumes nothing.
 use Prim.Native.Nat.{ℕ, _≤_}
 use native.Mathlib.Omega.{arith}
-use lib.ListN.{length, take, length-take}
+use lib.ListN.{length, length-take}
 use Rattle.rules.specs.declared.Table.{Table}
 use Rattle.rules.specs.StoredTable.{rowsIn, tableVerdict}
 use Rattle.rules.specs.Writing.{tableBytes, writeVerdict, writtenOf}

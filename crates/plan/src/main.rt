@@ -7,22 +7,22 @@ use rules::Verdict;
 // One object: id, cost, validity, deadline, period.
 fn print_row(row: PlanRow) {
     printing::number(row.id as u64);
-    printing::text(b" ");
+    printing::byte(b' ');
     printing::number(row.cost as u64);
-    printing::text(b" ");
+    printing::byte(b' ');
     printing::number(row.validity as u64);
-    printing::text(b" ");
+    printing::byte(b' ');
     printing::number(row.deadline as u64);
-    printing::text(b" ");
+    printing::byte(b' ');
     printing::number(row.period as u64);
-    printing::text(b"\n");
+    printing::byte(b'\n');
 }
 
 // "objects n", then a line for each object in priority order.
 fn print_plan(plan: Plan) {
     printing::text(b"objects ");
     printing::number(plan.count as u64);
-    printing::text(b"\n");
+    printing::byte(b'\n');
     for i in 0..64usize {
         if i < plan.count {
             let row = plan.rows[i];
@@ -38,7 +38,7 @@ fn answer(bytes: &[u8]) {
     match verdict {
         Verdict::Refused(refusal, place) => {
             printing::refused(refusal, place);
-            printing::text(b"\n");
+            printing::byte(b'\n');
         }
         Verdict::Accepted => {
             let table = read.table;
@@ -47,7 +47,7 @@ fn answer(bytes: &[u8]) {
             match planned_verdict {
                 Verdict::Refused(refusal, place) => {
                     printing::refused(refusal, place);
-                    printing::text(b"\n");
+                    printing::byte(b'\n');
                 }
                 Verdict::Accepted => {
                     let plan = planned.plan;

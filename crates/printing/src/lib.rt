@@ -1,6 +1,7 @@
 // What the programs print with: text, numbers and refusals, to standard output, and lines with columns; and refusals to standard error,
 // for programs whose output is a file.
 mod line;
+mod texts;
 
 use libc::STDERR_FILENO;
 use libc::STDOUT_FILENO;
@@ -11,10 +12,18 @@ pub use line::put_number;
 pub use line::put_padded;
 pub use line::put_text;
 use rules::Refusal;
+pub use texts::line_of;
+pub use texts::line_to_stderr;
 
 // The bytes as they are.
 pub fn text(bytes: &[u8]) {
     io::write_all(STDOUT_FILENO, bytes);
+}
+
+// One byte.
+pub fn byte(b: u8) {
+    let one = [b; 1];
+    text(&one);
 }
 
 // The number in decimal digits.

@@ -1,13 +1,11 @@
 -- The plan does not depend on the order of the records: tables whose records are the same in another order have the same plan.
 -- Assumes nothing.
-use Prim.Native.Nat.{ℕ, zero, suc, _+_, _-_, _≤_, _<_}
+use Prim.Native.Nat.{ℕ, zero, suc, _+_, _≤_}
 use mathlib.Core.Path.{_≡_, refl, sym, ap, ap₂, _∙_}
 use mathlib.Core.Bool.{Bool, true, false, cond, true≢false}
 use mathlib.Core.List.{List, [], _∷_, _++_}
 use native.Mathlib.Omega.{arith}
-use native.Mathlib.Decide.{ℕ-discrete}
 use borrow.Author.Tests.{le-leb}
-use lib.Dec.{eqb}
 use lib.ListN.{length, getD, take}
 use lib.Seq.{take-suc, length-take-le, getD-take}
 use Rattle.rules.specs.declared.ObjectRow.{ObjectRow}
@@ -15,10 +13,10 @@ use Rattle.rules.specs.declared.Table.{Table}
 use Rattle.rules.specs.declared.Verdict.the-variants.{Accepted}
 use Rattle.rules.specs.StoredTable.{noRow, rowsIn, hasId, checksFrom, countVerdict, tableVerdict}
 use Rattle.rules.specs.Order.{isAhead, rowAt, rowsAt, insertPlace, placesOf, inOrder}
-use Rattle.rules.specs.Deadlines.{planFrom, planOf}
+use Rattle.rules.specs.Deadlines.{planOf}
 use Rattle.rules.proofs.Lists.{Every, Pairwise, every-more}
 use Rattle.rules.proofs.Checks.{Ranged, first-passed, all-ranged, both-accept, count-in, count-said, has-before, has-more}
-use Rattle.promises.specs.OnlyOrder.{Behind, behind-trans, test-false, test-true, of-behind, same-id}
+use Rattle.promises.specs.OnlyOrder.{behind-trans, test-false, test-true, of-behind, same-id}
 
 -- of two rows with different ids one goes ahead, and not both
 not-both : (a b : ObjectRow) → isAhead a b ≡ true → isAhead b a ≡ true → ⊥

@@ -1,6 +1,6 @@
 -- The classic plan beside ours: a table that fits Half-Half is never refused by More-Less with 10, and no More-Less deadline there is above the
 -- Half-Half one (document 000, Theorem 3.4; document 002, Theorem 1). Assumes nothing.
-use Prim.Native.Nat.{ℕ, suc, _+_, _-_, _*_, _/_, _≤_, _<_}
+use Prim.Native.Nat.{ℕ, _-_, _*_, _/_, _≤_}
 use mathlib.Core.Path.{_≡_, refl, sym, ap, _∙_}
 use mathlib.Core.List.{List, [], _∷_, _++_}
 use mathlib.Core.Option.{Option, none, some}
@@ -17,8 +17,10 @@ use Rattle.rules.specs.declared.Verdict.{Verdict}
 use Rattle.rules.specs.declared.Verdict.the-variants.{Accepted, Refused}
 use Rattle.rules.specs.StoredTable.{countVerdict, rowsIn, checksFrom, tableVerdict}
 use Rattle.rules.specs.Order.{inOrder}
-use Rattle.rules.specs.Deadlines.{ceiling, brings, windowOf, needOf, smallestWithin, planRow, noPlanRow, refusedPlan, acceptedPlan, plannedRows, whereFound, planBy, planFrom, planOf, onAccepted}
+use Rattle.rules.specs.Deadlines.{ceiling, brings, windowOf, needOf, smallestWithin, planRow, noPlanRow, refusedPlan, plannedRows, whereFound, planBy, planFrom, planOf}
 use Rattle.rules.specs.HalfHalf.{halfRow, classicOf}
+use Rattle.rules.specs.Refusals.{_atPlace_, told}
+use Rattle.rules.proofs.Told.{told-settles}
 use Rattle.rules.proofs.Lists.{Every}
 use Rattle.rules.proofs.Checks.{Ranged, both-accept}
 use Rattle.promises.specs.Plans.{ordered-ranged}
@@ -86,15 +88,18 @@ both-fit ms hs (r ∷ rs) a g e =
 -- ── The promise ──
 
 -- a table that fits Half-Half is planned by More-Less too, and row by row the period is no shorter and the deadline no later
-pub fits-both : (table : Table) → classicOf table .verdict ≡ Accepted
-    → (planOf table .verdict ≡ Accepted) × AllNoWorse (plannedRows (planOf table .plan)) (plannedRows (classicOf table .plan))
-fits-both table e = by-verdict (tableVerdict table) refl
+pub fits-both : (table : Table) → told (classicOf table .verdict) ≡ 0 atPlace 0
+    → (told (planOf table .verdict) ≡ 0 atPlace 0) × AllNoWorse (plannedRows (planOf table .plan)) (plannedRows (classicOf table .plan))
+fits-both table told-none = let both = by-verdict (tableVerdict table) refl in (ap told (both .0), both .1)
   where
     rows : List ObjectRow
     rows = inOrder (table .rows) (table .count)
 
+    e : classicOf table .verdict ≡ Accepted
+    e = told-settles (classicOf table .verdict) Accepted told-none
+
     by-verdict : (v : Verdict) → tableVerdict table ≡ v → (planOf table .verdict ≡ Accepted) × AllNoWorse (plannedRows (planOf table .plan)) (plannedRows (classicOf table .plan))
-    by-verdict (Refused r k) w = let z : _≡_ {A = ℕ} 0 1 = cc (w) in absurd (omega arith)
+    by-verdict (Refused r k) w = let z : _≡_ {A = ℕ} 0 1 = cc (w, e) in absurd (omega arith)
     by-verdict Accepted w =
         let c : classicOf table ≡ planBy halfRow [] rows = rw w in
         let p : planOf table ≡ planFrom [] rows = rw w in

@@ -10,10 +10,10 @@ use lib.Dec.{leb}
 use Rattle.rules.specs.declared.PlanRow.{PlanRow}
 use Rattle.rules.specs.declared.RunRow.{RunRow}
 use Rattle.rules.specs.declared.Run.{Run}
-use Rattle.rules.specs.declared.Stepped.{Stepped}
 use Rattle.rules.specs.declared.Stored.{Stored}
 use Rattle.rules.specs.declared.Stored.the-variants.{Empty}
-use Rattle.rules.specs.Run.{noRunRow, storedAs, slotOf, stepped, steppedOf, isStolen}
+use Rattle.rules.specs.RunState.{ageOf}
+use Rattle.rules.specs.Run.{noRunRow, storedAs, slotOf}
 use Rattle.rules.proofs.Lists.{Every}
 use Rattle.promises.specs.History.{Object, State}
 
@@ -23,20 +23,6 @@ use Rattle.promises.specs.History.{Object, State}
 unfoldable pub runAfter : Run → (ℕ → Bool) → ℕ → Run
 runAfter run stolen zero = run
 runAfter run stolen (suc t) = slotOf (runAfter run stolen t) (stolen t)
-
--- the steps one after the other, each from the run that the one before hands back: what the last of t steps answers
-unfoldable pub stepsAfter : Run → (ℕ → Bool) → ℕ → Stepped
-stepsAfter run stolen zero = stepped run
-stepsAfter run stolen (suc t) = steppedOf (stepsAfter run stolen t .run) (stolen t)
-
--- the same over a list of bytes, from what a step has answered
-unfoldable pub stepsOver : Stepped → List ℕ → Stepped
-stepsOver answer [] = answer
-stepsOver answer (s ∷ ss) = stepsOver (steppedOf (answer .run) (isStolen s)) ss
-
--- which slots such a list says are stolen
-abbrev pub stolenIn : List ℕ → ℕ → Bool
-stolenIn ss t = isStolen (getD ss t 0)
 
 -- the next release is a 32-bit number
 abbrev pub Low : RunRow → Type 0
@@ -51,6 +37,14 @@ pub record Fits (run : Run) : Type 0 where
 -- the row of a run at place i
 abbrev pub runRow : Run → ℕ → RunRow
 runRow run i = getD (run .rows) i noRunRow
+
+-- a release of the object at place i is due at the instant t
+abbrev pub DueAt : (ℕ → Run) → ℕ → ℕ → Type 0
+DueAt run i t = runRow (run t) i .next ≡ run t .clock
+
+-- an object as a run goes on with it: its planned numbers, and its next release counted from the clock
+abbrev pub objectOf : ℕ → RunRow → Object
+objectOf clock row = record { plan = row .planned; first = ageOf (row .next) clock }
 
 -- nothing is left over: "work left before step 1 of that instant"
 abbrev pub NothingLeft : Run → Type 0

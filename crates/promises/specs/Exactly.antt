@@ -1,6 +1,6 @@
 -- Demand 2 on plans: a well-formed table is refused exactly if some object has no deadline within half its validity, and then with 10 and the
 -- place of the first such object; otherwise each deadline is the smallest number of slots that balances, and the period is validity minus deadline. Assumes nothing.
-use Prim.Native.Nat.{ℕ, zero, suc, _+_, _-_, _*_, _/_, _≤_, _<_}
+use Prim.Native.Nat.{ℕ, zero, suc, _+_, _*_, _/_, _≤_, _<_}
 use mathlib.Core.Path.{_≡_, refl, sym, ap, ap₂, _∙_, subst}
 use mathlib.Core.Logic.{_↔_, _⊎_, inl, inr}
 use mathlib.Core.List.{List, [], _∷_, _++_, append-assoc, append-nil}
@@ -13,13 +13,14 @@ use Rattle.rules.specs.declared.Planned.{Planned}
 use Rattle.rules.specs.declared.Table.{Table}
 use Rattle.rules.specs.declared.Refusal.{Refusal}
 use Rattle.rules.specs.declared.Refusal.the-variants.{NoDeadline}
-use Rattle.rules.specs.declared.Verdict.{Verdict}
 use Rattle.rules.specs.declared.Verdict.the-variants.{Accepted, Refused}
 use lib.ListN.{length, take, getD, length-append}
 use Rattle.rules.specs.StoredTable.{noRow, tableVerdict}
 use Rattle.rules.specs.Order.{inOrder}
-use Rattle.rules.specs.Deadlines.{needOf, smallestWithin, planRow, refusedPlan, acceptedPlan, whereFound, planFrom, onAccepted, planOf}
+use Rattle.rules.specs.Deadlines.{needOf, smallestWithin, planRow, refusedPlan, acceptedPlan, whereFound, planFrom, planOf}
 use Rattle.rules.proofs.Balance.{found, missed}
+use Rattle.rules.specs.Refusals.{_atPlace_, told}
+use Rattle.rules.proofs.Told.{told-settles}
 
 -- t is the deadline of an object with those rows ahead: the smallest whole t, at least 1, that balances, and 2 t is at most the validity
 pub record IsDeadline (ahead : List PlanRow) (r : ObjectRow) (t : ℕ) : Type 0 where
@@ -161,12 +162,12 @@ module _ (table : Table) (well-formed : tableVerdict table ≡ Accepted) where
   refused-at k e = let z : 0 + k ≡ k = omega arith in settled ∙ (e ∙ ap (refusedPlan NoDeadline) z)
 
   -- refused with 10 at a place exactly if the object there is the first without a deadline
-  pub refused-exactly : (k : ℕ) → (planOf table .verdict ≡ Refused NoDeadline k) ↔ FirstWithout [] (inOrder (table .rows) (table .count)) k
+  pub refused-exactly : (k : ℕ) → (told (planOf table .verdict) ≡ 10 atPlace k) ↔ FirstWithout [] (inOrder (table .rows) (table .count)) k
   refused-exactly k = elim (planned-or-none [] (inOrder (table .rows) (table .count))) [
-    | inl p ↦ (λ e. (let z : _≡_ {A = ℕ} 0 1 = cc (settled, p .2) in absurd (omega arith)), λ q. absurd (clash k (p .1) q))
+    | inl p ↦ (λ e. (let z : _≡_ {A = ℕ} 0 1 = cc (settled, p .2, told-settles (planOf table .verdict) (Refused NoDeadline k) e) in absurd (omega arith)), λ q. absurd (clash k (p .1) q))
     | inr p ↦ (
-      λ e. (let z : p .0 ≡ k = cc (refused-at (p .0) (p .2)) in subst (FirstWithout [] (inOrder (table .rows) (table .count))) z (p .1)),
-      λ q. ap (λ (x : Planned). x .verdict) (refused-at (p .0) (p .2)) ∙ ap (Refused NoDeadline) (one-place (p .0) k (p .1) q),
+      λ e. (let z : p .0 ≡ k = cc (refused-at (p .0) (p .2), told-settles (planOf table .verdict) (Refused NoDeadline k) e) in subst (FirstWithout [] (inOrder (table .rows) (table .count))) z (p .1)),
+      λ q. ap (λ (x : Planned). told (x .verdict)) (refused-at (p .0) (p .2)) ∙ ap (λ (j : ℕ). 10 atPlace j) (one-place (p .0) k (p .1) q),
     )
   ]
 

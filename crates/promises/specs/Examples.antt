@@ -1,13 +1,14 @@
--- Document 01, "Numbers to hold against it": its runs, computed by one statement over a table of them, and demand 3 put to use on one.
+-- Document 01, "Numbers to hold against it": its runs, computed by one statement over a table of them, and demand 3 put to use on two.
 -- Assumes nothing: the definitions are computed.
 use Prim.Native.Nat.{ℕ, zero, suc, _≤_, _<_}
-use mathlib.Core.Path.{_≡_, refl}
+use mathlib.Core.Path.{_≡_, refl, _∙_}
 use mathlib.Core.Bool.{Bool, false, cond}
 use mathlib.Core.List.{List, [], _∷_, map}
 use mathlib.Core.Option.{Option, none, some}
 use native.Mathlib.Omega.{arith}
-use lib.Dec.{eqb}
+use lib.Dec.{eqb, ltb}
 use lib.ListN.{length}
+use borrow.Author.Tests.{le-ltb}
 use Rattle.rules.specs.declared.ObjectRow.{ObjectRow}
 use Rattle.rules.specs.declared.RunRow.{RunRow}
 use Rattle.rules.specs.declared.Run.{Run}
@@ -17,9 +18,12 @@ use Rattle.rules.specs.StoredTable.{tableOf}
 use Rattle.rules.specs.RunState.{usedRows, rowOk, rowNone, every, notIn, distinct, acceptable}
 use Rattle.rules.specs.Run.{startOf, releasedOf, stepOne, servedOf, serveFirst, agedOf, slotOf, isStolen, slotsOf, advancedOf, readFrom, readingOf}
 use Rattle.rules.specs.Numbers.{row}
-use Rattle.promises.specs.History.{State, objectsIn, history, trueAge}
-use Rattle.promises.specs.Encode.{runAfter, stolenIn, NothingLeft}
-use Rattle.promises.specs.Promises.{runOf, demand-3-fresh}
+use Rattle.promises.specs.History.{Object, State, objectsIn, history, trueAge}
+use Rattle.promises.specs.Encode.{runAfter, runRow, NothingLeft}
+use Rattle.promises.specs.Calls.{slotFlags, stolenBy}
+use Rattle.promises.specs.Calls.Call.{manySlots}
+use Rattle.promises.specs.Promises.{Promised, runOf}
+use Rattle.promises.specs.Kept.{kept}
 
 -- a table that is started, and a byte for each slot: 0, or 1 where it is stolen
 pub record Course : Type 0 where
@@ -52,7 +56,7 @@ seen c =
     let table = tableOf (c .rows) in
     let from = startOf table (c .clock) (c .firsts) .run in
     let run = advancedOf from (c .slots) .run in
-    let states = history (objectsIn table (c .firsts)) (stolenIn (c .slots)) (length (c .slots)) in
+    let states = history (objectsIn table (c .firsts)) (stolenBy (manySlots (c .slots) ∷ [])) (length (c .slots)) in
     record {
       clock = run .clock;
       went = wentTo from (c .slots);
@@ -114,7 +118,7 @@ table =
     ∷ []
 
 pub right : map (λ (c : Case). seen (c .course)) table ≡ map (λ (c : Case). c .answer) table
-unfolding releasedOf servedOf serveFirst agedOf slotOf slotsOf advancedOf readFrom readingOf acceptable rowOk rowNone every notIn distinct history
+unfolding releasedOf servedOf serveFirst agedOf slotOf slotsOf advancedOf readFrom readingOf acceptable rowOk rowNone every notIn distinct history slotFlags
 right = refl
 
 -- ── Demand 3 put to use ──
@@ -136,5 +140,37 @@ figure-2-rests (suc (suc (suc i))) h = absurd (omega arith)
 -- so from instant 18 on the third object is fresh for ever, with an age below 12, across the wrap of the clock
 pub figure-2-fresh : (t : ℕ) → 18 ≤ t → (age : ℕ) × (readingOf (figure-2-run t) 3 ≡ Fresh age) × (age < 12)
 figure-2-fresh t h =
-    demand-3-fresh (tableOf figure-2) 4294967290 (2 ∷ 1 ∷ 0 ∷ []) refl (omega arith) none-stolen 2
-    (record { plan = record { id = 3; cost = 2; validity = 12; deadline = 6; period = 6 }; first = 0 }) refl 6 t figure-2-rests (λ u x y. refl) t h (omega arith)
+    kept .of-start (tableOf figure-2) 4294967290 (2 ∷ 1 ∷ 0 ∷ []) refl (omega arith) .demand-3 none-stolen 6 t figure-2-rests (λ u x y. refl) 2
+    (record { plan = record { id = 3; cost = 2; validity = 12; deadline = 6; period = 6 }; first = 0 }) refl .fresh t h (omega arith)
+
+-- (1,2), first release 0, slots 0 to 2 stolen: three skips, and instant 4 has nothing left over
+abbrev three-stolen : ℕ → Bool
+three-stolen t = ltb t 3
+
+abbrev stolen-run : ℕ → Run
+stolen-run = runOf (tableOf (row 1 1 2 ∷ [])) 4294967294 (0 ∷ []) three-stolen
+
+stolen-rests : NothingLeft (stolen-run 4)
+unfolding runAfter releasedOf servedOf serveFirst agedOf slotOf
+stolen-rests zero h = refl
+stolen-rests (suc i) h = absurd (omega arith)
+
+-- so from instant 4 on all is promised that demand 3 promises
+abbrev only-object : Object
+only-object = record { plan = record { id = 1; cost = 1; validity = 2; deadline = 1; period = 1 }; first = 0 }
+
+pub promised-again : (e : ℕ) → Promised stolen-run 0 only-object 4 e
+promised-again e =
+    kept .of-start (tableOf (row 1 1 2 ∷ [])) 4294967294 (0 ∷ []) refl (omega arith) .demand-3 three-stolen 4 e stolen-rests
+    (λ t l u. le-ltb t 3 (omega arith)) 0 only-object refl
+
+-- no skip is added to the three, and from instant 6 on the object is fresh, across the wrap of the clock
+three-skips : runRow (stolen-run 4) 0 .skips ≡ 3
+unfolding runAfter releasedOf servedOf serveFirst agedOf slotOf
+three-skips = refl
+
+pub no-fourth-skip : (t : ℕ) → 4 ≤ t → runRow (stolen-run t) 0 .skips ≡ 3
+no-fourth-skip t h = promised-again t .no-skip t h (omega arith) ∙ three-skips
+
+pub fresh-again : (t : ℕ) → 6 ≤ t → (age : ℕ) × (readingOf (stolen-run t) 1 ≡ Fresh age) × (age < 2)
+fresh-again t h = promised-again t .fresh t h (omega arith)

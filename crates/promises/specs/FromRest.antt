@@ -22,7 +22,8 @@ use Rattle.promises.specs.History.{Object, start, object, plansOf, Unsto
 use Rattle.promises.specs.Track.{track, state-track}
 use Rattle.promises.specs.Plans.{PlannedRows}
 use Rattle.promises.specs.InTime.{Planned}
-use Rattle.promises.specs.Encode.{Low, Fits, runAfter, runRow, NothingLeft, encode}
+use Rattle.promises.specs.Encode.{Low, Fits, runAfter, runRow, DueAt, objectOf, NothingLeft, encode}
+use Rattle.promises.specs.Sampled.{IsRelease}
 use Rattle.promises.specs.Clock.{counted-from}
 use Rattle.promises.specs.Tests.{cond-holds}
 use Rattle.rules.proofs.Tests.{and-left, and-right}
@@ -31,7 +32,9 @@ use Rattle.promises.specs.Slots.{plans, slot-used, after-count}
 use Rattle.promises.specs.Tie.{firstsOf, startWith, run-row, run-count}
 use Rattle.promises.specs.NeverRefused.{parts, rests-now, plan-ids, accept-parts, accept-size, runs-keep, Startable, start-length, start-fits, start-acceptable}
 use Rattle.promises.specs.Readings.{read-row}
-use Rattle.promises.specs.Demand3.{Promised, begins-due, promised}
+use Rattle.promises.specs.Demand3.{begins-due, promised}
+use Rattle.promises.specs.AlwaysDue.{due-then}
+use Rattle.promises.specs.Promises.{Promised}
 
 -- ── Rows that go alike ──
 
@@ -157,10 +160,6 @@ likes-at (also p l) (suc i) h = likes-at l i (omega arith)
 
 -- ── The start that a run with nothing left over is like ──
 
--- the object of a row, with its next release counted from the clock
-abbrev objectOf : ℕ → RunRow → Object
-objectOf clock row = record { plan = row .planned; first = ageOf (row .next) clock }
-
 abbrev objectsAt : ℕ → List RunRow → List Object
 objectsAt clock rows = map (objectOf clock) rows
 
@@ -219,20 +218,18 @@ together-slot zs x y stolen sx sy h =
     }
 
 -- a promise on y is one on x, where the rows at place i go alike and the skips of y are none
-module _ (k f i b e : ℕ) (plan : PlanRow) (x y : ℕ → Run) (clocks : (t : ℕ) → x t .clock ≡ y t .clock) (like : (t : ℕ) → Like k (runRow (x t) i) (runRow (y t) i))
-    (reads : (t : ℕ) → readingOf (x t) (plan .id) ≡ valueOf (x t .clock) (runRow (x t) i .stored))
-    (reads′ : (t : ℕ) → readingOf (y t) (plan .id) ≡ valueOf (y t .clock) (runRow (y t) i .stored))
-    (none : runRow (y b) i .skips ≡ 0) (p : Promised y plan f i b e) where
-  like-promised : Promised x plan f i b e
+module _ (k i b e : ℕ) (o : Object) (x y : ℕ → Run) (clocks : (t : ℕ) → x t .clock ≡ y t .clock) (like : (t : ℕ) → Like k (runRow (x t) i) (runRow (y t) i))
+    (reads : (t : ℕ) → readingOf (x t) (o .plan .id) ≡ valueOf (x t .clock) (runRow (x t) i .stored))
+    (reads′ : (t : ℕ) → readingOf (y t) (o .plan .id) ≡ valueOf (y t .clock) (runRow (y t) i .stored))
+    (due : (r : ℕ) → IsRelease o r → DueAt x i r) (none : runRow (y b) i .skips ≡ 0) (p : Promised y i o b e) where
+  like-promised : Promised x i o b e
   like-promised =
       record {
-        due = λ r l u. rw (like r .next-same, clocks r) (p .due r l u);
-        begins = λ n r q l u.
-            let d : runRow (x r) i .next ≡ x r .clock = like r .next-same ∙ (p .due r l u .1 (n, q) ∙ sym (clocks r)) in
-            let z : runRow (x r) i .left ≡ 0 = like r .left-same ∙ p .begins n r q l u .0 in
-            (z, begins-due (x r .clock) (runRow (x r) i) d z);
-        done = λ n r q l t v w u.
-            let m = p .done n r q l t v w u in
+        begins = λ r q l u.
+            let z : runRow (x r) i .left ≡ 0 = like r .left-same ∙ p .begins r q l u .0 in
+            (z, begins-due (x r .clock) (runRow (x r) i) (due r q) z);
+        in-time = λ r q l t v w u.
+            let m = p .in-time r q l t v w u in
             let stored : runRow (y t) i .stored ≡ Empty → ⊥ = λ z. (let o : _≡_ {A = ℕ} 0 1 = cc (z, m .1) in absurd (omega arith)) in
             (like t .left-same ∙ m .0, like t .stored-same stored ∙ (m .1 ∙ ap (λ (s : ℕ). Held s) (sym (clocks r))));
         no-skip = λ t l u. like t .skips-same (p .no-skip t l u ∙ none) ∙ sym (like b .skips-same none);
@@ -344,16 +341,16 @@ module _ (run : Run) (stolen : ℕ → Bool) (w : Fits run) (ok : acceptable run
 
   -- from a run with nothing left over whose rows are planned
   pub rest-promised : PlannedRows (plans (usedRows run)) → (e : ℕ) → Unstolen stolen 0 e → (i : ℕ) → i < run .count
-      → Promised (runAfter run stolen) (runRow run i .planned) (ageOf (runRow run i .next) (run .clock)) i 0 e
+      → Promised (runAfter run stolen) i (objectOf (run .clock) (runRow run i)) 0 e
   rest-promised pl e given i h =
       let planned : Planned (restart run) = record { phased = startable .runnable .phased; rows = (unfold restart in rw (objects-plans (run .clock) (usedRows run)) pl) } in
       let y = promised (run .clock) (restart run) stolen (w .clock-low) startable planned 0 e given again-nothing i (placed i h) in
-      like-promised (runRow run i .skips) (ageOf (runRow run i .next) (run .clock)) i 0 e (runRow run i .planned) (runAfter run stolen) (again run stolen)
-      (λ t. runs-like t .clock-same) (rows-like i h) (reads i h) (again-reads i h) (again-skips i h) (rw (object-same i h) at y)
+      like-promised (runRow run i .skips) i 0 e (objectOf (run .clock) (runRow run i)) (runAfter run stolen) (again run stolen)
+      (λ t. runs-like t .clock-same) (rows-like i h) (reads i h) (again-reads i h) (λ r. due-then run stolen w ok i h r .1) (again-skips i h) (rw (object-same i h) at y)
 
   -- the same of the row that stands at place i
   pub row-promised : PlannedRows (plans (usedRows run)) → (e : ℕ) → Unstolen stolen 0 e → (i : ℕ) (row : RunRow) → getElem? (usedRows run) i ≡ some row
-      → Promised (runAfter run stolen) (row .planned) (ageOf (row .next) (run .clock)) i 0 e
+      → Promised (runAfter run stolen) i (objectOf (run .clock) row) 0 e
   row-promised pl e given i row place =
       let s = standing noRunRow (usedRows run) i row place in
       let h : i < run .count = rw used-length at (s .0) in

@@ -8,12 +8,11 @@ use mathlib.Core.Option.{some}
 use native.Mathlib.Nat.{not-suc-le-zero, le-of-suc-le-suc, div-eq-of-lt-le}
 use native.Mathlib.Decide.{decLe}
 use native.Mathlib.Omega.{arith}
-use lib.ListN.{length, take, getElem?, length-take, length-map, List·getD-map}
+use lib.ListN.{length, take, length-take, length-map, List·getD-map}
 use lib.Seq.{getD-take}
 use borrow.Author.Tests.{eq-eqb}
 use Rattle.rules.specs.declared.PlanRow.{PlanRow}
 use Rattle.rules.specs.Deadlines.{ceiling, brings, windowOf}
-use Rattle.rules.proofs.Lists.{standing}
 use Rattle.promises.specs.Plans.{PlannedRow, PlannedRows}
 use Rattle.promises.specs.History.{Object, noObject, plansOf, starts, start, release, history, object, state, Unstolen, leftSum, Quiet, FreshAt, InPhase}
 use Rattle.promises.specs.Track.{track, passed, supply, tracks, free, history-tracks, state-track}
@@ -169,12 +168,3 @@ module _ (os : List Object) (stolen : ℕ → Bool) (pl : Planned os) (i : ℕ) 
   freshness t l u =
       let v : object os i .plan .deadline + object os i .plan .period ≤ object os i .plan .validity = let m = planned-at os (pl .rows) i h in omega arith in
       rw (state-track os stolen i t h) (Job.fresh supplied (object os i .plan .validity) v t l u)
-
--- a planned job ends in time: from its deadline to the next release nothing is left of it, and its value is stored
-pub job-done : (os : List Object) (stolen : ℕ → Bool) → Planned os → (b e : ℕ) → Quiet (history os stolen b) → Unstolen stolen b e → (i : ℕ) (o : Object) → getElem? os i ≡ some o
-    → (k r : ℕ) → r ≡ o .first + k * o .plan .period → b ≤ r → (t : ℕ) → r + o .plan .deadline ≤ t → t ≤ r + o .plan .period → t ≤ e
-    → (state os stolen i t .left ≡ 0) × (state os stolen i t .value ≡ some r)
-job-done os stolen pl b e q given i o place k r x l t p y u =
-    let s = standing noObject os i o place in
-    let x′ : r ≡ object os i .first + k * object os i .plan .period = rw (s .1) x in
-    deadlines os stolen pl i (s .0) b e given (quiet-take (suc i) os stolen b q) k r x′ l (omega arith) .done t (rw (s .1) p) (rw (s .1) y) u

@@ -15,10 +15,10 @@ use Rattle.rules.specs.declared.Run.{Run}
 use Rattle.rules.specs.declared.Stored.{Stored}
 use Rattle.rules.specs.declared.Stored.the-variants.{Empty, Held, Lapsed}
 use Rattle.rules.specs.RunState.{ageOf, planOk, nextOk, leftOk, storedOk, restOk, handOk, rowOk, rowNone, every, idOf, distinct, usedRows, acceptable}
-use Rattle.rules.specs.Run.{tick, noRunRow, startRow, startRows, begunOf, skippedOf, releasedOf, stepOne, servedOf, serveFirst, stepTwo, agedStored, agedOf, stepThree, slotRows, slotOf, notRunState, stepped, steppedOf, isStolen, slotsOf, advancedOf}
+use Rattle.rules.specs.Run.{tick, noRunRow, startRow, startRows, begunOf, skippedOf, releasedOf, stepOne, servedOf, serveFirst, stepTwo, agedStored, agedOf, stepThree, slotRows, slotOf}
 use Rattle.promises.specs.History.{Object, plansOf}
 use Rattle.rules.proofs.Lists.{Every, every-take, every-drop, every-append}
-use Rattle.promises.specs.Encode.{Low, Fits, stolenIn, runAfter, stepsAfter, stepsOver}
+use Rattle.promises.specs.Encode.{Low, Fits, runAfter}
 use Rattle.promises.specs.Clock.{near-next, near-due}
 use Rattle.promises.specs.Tests.{cond-holds, and-parts}
 use Rattle.rules.proofs.Tests.{and-left, and-right}
@@ -195,48 +195,6 @@ module _ (run : Run) (stolen : ℕ → Bool) (w : Fits run) (ok : acceptable run
   runs-keep (suc t) =
       let ih = runs-keep t in
       (slot-fits (runAfter run stolen t) (stolen t) (ih .0) (ih .1), slot-keeps (runAfter run stolen t) (stolen t) (ih .0) (ih .1))
-
-  -- no step is refused: steps are slots
-  pub steps-slots : (t : ℕ) → stepsAfter run stolen t ≡ stepped (runAfter run stolen t)
-  unfolding runAfter stepsAfter steppedOf
-  steps-slots zero = refl
-  steps-slots (suc t) = rw (steps-slots t, runs-keep t .1)
-
--- many slots in one call are the steps one after the other
-all-accepted : (run : Run) → Fits run → acceptable run ≡ true → (ss : List ℕ) → stepsOver (stepped run) ss ≡ stepped (slotsOf run ss)
-unfolding stepsOver slotsOf steppedOf
-all-accepted run w ok [] = refl
-all-accepted run w ok (s ∷ ss) =
-    rw ok (all-accepted (slotOf run (isStolen s)) (slot-fits run (isStolen s) w ok) (slot-keeps run (isStolen s) w ok) ss)
-
-all-refused : (run : Run) → acceptable run ≡ false → (ss : List ℕ) → stepsOver (notRunState run) ss ≡ notRunState run
-unfolding stepsOver steppedOf
-all-refused run not-ok [] = refl
-all-refused run not-ok (s ∷ ss) = rw not-ok (all-refused run not-ok ss)
-
-pub advance-steps : (run : Run) → Fits run → (s : ℕ) (ss : List ℕ) → advancedOf run (s ∷ ss) ≡ stepsOver (steppedOf run (isStolen s)) ss
-unfolding advancedOf steppedOf slotsOf
-advance-steps run w s ss = go (acceptable run) refl
-  where
-    go : (b : Bool) → acceptable run ≡ b
-        → cond b (stepped (slotsOf (slotOf run (isStolen s)) ss)) (notRunState run) ≡ stepsOver (cond b (stepped (slotOf run (isStolen s))) (notRunState run)) ss
-    go true ok = sym (all-accepted (slotOf run (isStolen s)) (slot-fits run (isStolen s) w ok) (slot-keeps run (isStolen s) w ok) ss)
-    go false not-ok = sym (all-refused run not-ok ss)
-
--- and the run after so many slots
-after-first : (run : Run) (stolen : ℕ → Bool) (t : ℕ) → runAfter (slotOf run (stolen 0)) (λ u. stolen (suc u)) t ≡ runAfter run stolen (suc t)
-unfolding runAfter
-after-first run stolen zero = refl
-after-first run stolen (suc t) = ap (λ r. slotOf r (stolen (suc t))) (after-first run stolen t)
-
-pub slots-after : (run : Run) (ss : List ℕ) → slotsOf run ss ≡ runAfter run (stolenIn ss) (length ss)
-unfolding slotsOf runAfter
-slots-after run [] = refl
-slots-after run (s ∷ ss) = slots-after (slotOf run (isStolen s)) ss ∙ after-first run (stolenIn (s ∷ ss)) (length ss)
-
-pub advance-after : (run : Run) → acceptable run ≡ true → (ss : List ℕ) → advancedOf run ss ≡ stepped (runAfter run (stolenIn ss) (length ss))
-unfolding advancedOf
-advance-after run ok ss = rw ok (ap stepped (slots-after run ss))
 
 -- ── The start ──
 

@@ -1,6 +1,6 @@
 -- What the planner gives: of each row a deadline that balances within half the validity, and a period of validity minus deadline.
 -- Assumes nothing.
-use Prim.Native.Nat.{ℕ, zero, suc, _+_, _-_, _*_, _≤_, _<_}
+use Prim.Native.Nat.{ℕ, zero, suc, _-_, _*_, _≤_, _<_}
 use mathlib.Core.Path.{_≡_, refl, ap, sym, _∙_}
 use mathlib.Core.Logic.{_≢_}
 use mathlib.Core.Bool.{Bool, true, false, cond}
@@ -24,7 +24,7 @@ use Rattle.rules.proofs.Lists.{Every, Pairwise, every-more, every-at, pairwise-
 use Rattle.rules.proofs.Places.{insert-every, places-below, in-order-length}
 use Rattle.rules.proofs.Checks.{Ranged, all-ranged, both-accept, count-said, refused-not}
 use Rattle.promises.specs.AnyRecordOrder.{checks-apart}
-use Rattle.promises.specs.Exactly.{IsDeadline, PlannedAs}
+use Rattle.promises.specs.Exactly.{PlannedAs}
 use Rattle.promises.specs.Exactly.PlannedAs.{done, next}
 use Rattle.promises.specs.SamePlan.{planned-as}
 

@@ -1,152 +1,113 @@
--- The promises, each in full, over the rules of crate `rules` and the history of History.antt; Encode.antt has the run slot by slot
--- and says what the history looks like in 32 bits.
--- Assumes nothing but what each statement says.
-use Prim.Native.Nat.{ℕ, _+_, _*_, _^_, _≤_, _<_}
+-- The promises of demands 2 and 3, each in full, on one page; `kept : Promises` in Kept.antt proves them. Demand 1 is in the contracts.
+-- Assumes nothing but what each statement says. Promises/Words.antt tells where each word is defined: those of document 01 in crate
+-- `rules`, the history, its run in true time, in History.antt; `runAfter run stolen t` is the run of the rules after t slots.
+pub mod Words
+use Prim.Native.Nat.{ℕ, _+_, _^_, _≤_, _<_}
 use mathlib.Core.Path.{_≡_}
-use mathlib.Core.Logic.{_↔_}
-use mathlib.Core.Bool.{Bool, true}
-use mathlib.Core.List.{List, _∷_, map}
+use mathlib.Core.Logic.{_↔_, _⊎_}
+use mathlib.Core.Bool.{Bool, true, false}
+use mathlib.Core.List.{List, []}
 use mathlib.Core.Option.{some}
-use native.Mathlib.Omega.{arith}
-use lib.ListN.{length, take, getElem?}
-use Rattle.rules.specs.declared.RunRow.{RunRow}
-use Rattle.rules.specs.declared.Run.{Run}
-use Rattle.rules.specs.declared.Stored.the-variants.{Held}
-use Rattle.rules.specs.declared.Reading.the-variants.{Fresh}
-use Rattle.rules.specs.declared.Table.{Table}
-use Rattle.rules.specs.declared.Verdict.the-variants.{Accepted}
-use Rattle.rules.specs.Deadlines.{planOf, plannedRows}
-use Rattle.rules.specs.RunState.{ageOf, usedRows, acceptable}
-use Rattle.rules.specs.Run.{startOf, begunOf, releasedOf, slotOf, stepped, steppedOf, isStolen, advancedOf, readingOf, trueReading}
-use Rattle.promises.specs.History.{Object, objectsIn, history, plansOf, InPhase, state, trueAge, Unstolen, Quiet}
-use Rattle.promises.specs.Encode.{runAfter, stolenIn, stepsAfter, stepsOver, Fits, runRow, NothingLeft, encodeRun}
-use Rattle.promises.specs.Plans.{PlannedRows, plan-rows}
-use Rattle.promises.specs.InTime.{job-done}
-use Rattle.promises.specs.NeverRefused.{slot-keeps, slot-fits, steps-slots, advance-steps, advance-after}
-use Rattle.promises.specs.Demand3.{Promised}
-use Rattle.promises.specs.FromRest.{row-promised}
-use Rattle.promises.specs.Starts.{start-history, start-accepted, start-reading, start-stored, start-promised}
-use Rattle.promises.specs.SameAhead.{starts-row, starts-reading}
+use lib.ListN.{take, getD, getElem?}
+use Words.*
+use Rattle.rules.specs.declared.Reading.the-variants as reading
+
+-- ── Demand 2 ──
+
+pub record OfTable (table : Table) : Type 0 where
+  -- THE ORDER. The places in use, sorted, each once and no other; no other list of places is so, where the ids differ.
+  pub order : Ordered (table .rows) (table .count) (placesIn table)
+  pub only-order : IdsDiffer table → (ps : List ℕ) → Ordered (table .rows) (table .count) ps → ps ≡ placesIn table
+  -- THE DEADLINE is the smallest number of slots that covers the object's own cost and all releases ahead of it, at most half the validity;
+  -- the period is validity minus deadline.
+  pub deadline : planOf table .verdict ≡ Accepted → (i : ℕ) → i < table .count
+      → PlannedBehind (take i (plansIn table)) (getD (ordered table) i noRow) (getD (plansIn table) i noPlanRow)
+  -- REFUSED EXACTLY. A well-formed table is planned or refused with 10, and 10 is told at a place exactly if the table is well-formed and
+  -- the object there is the first, in priority order, without a deadline within half its validity.
+  pub planned-or-10 : tableVerdict table ≡ Accepted
+      → (planOf table .verdict ≡ Accepted) ⊎ ((k : ℕ) × (told (planOf table .verdict) ≡ 10 atPlace k))
+  pub ten-exactly : (k : ℕ)
+      → (told (planOf table .verdict) ≡ 10 atPlace k) ↔ ((tableVerdict table ≡ Accepted) × FirstWithout [] (ordered table) k)
+  -- STARTED EXACTLY if it is planned, there are as many first releases as objects and each is below its period; otherwise refused on the
+  -- first ground: the plan's refusal, 11 at 0, 12 at the first place whose first release is not below.
+  pub start-exactly : (clock : ℕ) (firsts : List ℕ) (n : Told)
+      → (told (startOf table clock firsts .verdict) ≡ n) ↔ GroundOf (planOf table) firsts n
+
+-- ── Demand 3 ──
+
+-- what the object o at place i is promised of a run from the instant b to the instant e; its releases are those at first + k · period
+pub record Promised (run : ℕ → Run) (i : ℕ) (o : Object) (b e : ℕ) : Type 0 where
+  -- at each release nothing is left of the job before, and step 1 begins a job, sampled at the release
+  pub begins : (r : ℕ) → IsRelease o r → b ≤ r → r ≤ e
+      → (runRow (run r) i .left ≡ 0) × (releasedOf (run r .clock) (runRow (run r) i) ≡ begunOf (run r .clock) (runRow (run r) i))
+  -- it finishes within its deadline: from then to the next release nothing is left of it, and its value is stored
+  pub in-time : (r : ℕ) → IsRelease o r → b ≤ r → (t : ℕ) → r + o .plan .deadline ≤ t → t ≤ r + o .plan .period → t ≤ e
+      → (runRow (run t) i .left ≡ 0) × (runRow (run t) i .stored ≡ Held (run r .clock))
+  -- none is skipped
+  pub no-skip : (t : ℕ) → b ≤ t → t ≤ e → runRow (run t) i .skips ≡ runRow (run b) i .skips
+  -- from one validity interval on it is fresh
+  pub fresh : (t : ℕ) → b + o .plan .validity ≤ t → t ≤ e
+      → (age : ℕ) × (readingOf (run t) (o .plan .id) ≡ reading.Fresh age) × (age < o .plan .validity)
+
+-- of the object o at place i in every run, whatever slots are stolen and however often the clock wraps; w is its state in the history
+pub record InEveryRun (run : ℕ → Run) (w : ℕ → State) (i : ℕ) (o : Object) : Type 0 where
+  -- FRESH IS TRUE. A reading is fresh exactly while there is a value whose true age is below the validity, and tells that age.
+  pub fresh-is-true : (t : ℕ) → readingOf (run t) (o .plan .id) ≡ trueReading (trueAge t (w t .value)) (o .plan .validity)
+  -- That value, and the sample in hand, is of a release before t. Releases are due at first + k · period and at no other instant.
+  pub stored-sample : (t p : ℕ) → w t .value ≡ some p → (p < t) × IsRelease o p
+  pub sample-in-hand : (t : ℕ) → 0 < w t .left → (w t .sample < t) × IsRelease o (w t .sample)
+  pub due : (t : ℕ) → DueAt run i t ↔ IsRelease o t
 
 -- the run after t slots of a table that is started
 abbrev pub runOf : Table → ℕ → List ℕ → (ℕ → Bool) → ℕ → Run
 runOf table clock firsts stolen = runAfter (startOf table clock firsts .run) stolen
 
--- ── The history ──
+pub record OfStart (table : Table) (clock : ℕ) (firsts : List ℕ) : Type 0 where
+  -- NEVER 13. A started run is acceptable, so what is said below of such runs is true of it: no call is refused.
+  pub never-13 : Fits (startOf table clock firsts .run) × (acceptable (startOf table clock firsts .run) ≡ true)
+  -- TIE. The run after t slots is the history at t in 32 bits: clock, next release, work left, sample, lapse marks, stored value, skips.
+  pub tie : (stolen : ℕ → Bool) (t : ℕ)
+      → runOf table clock firsts stolen t ≡ encodeRun clock t (objectsIn table firsts) (history (objectsIn table firsts) stolen t)
+  pub in-every-run : (stolen : ℕ → Bool) (i : ℕ) (o : Object) → getElem? (objectsIn table firsts) i ≡ some o
+      → InEveryRun (runOf table clock firsts stolen) (state (objectsIn table firsts) stolen i) i o
+  -- DEMAND 3 from any instant b with nothing left over, up to any instant e before which no slot is stolen.
+  pub demand-3 : (stolen : ℕ → Bool) (b e : ℕ) → NothingLeft (runOf table clock firsts stolen b) → Unstolen stolen b e
+      → (i : ℕ) (o : Object) → getElem? (objectsIn table firsts) i ≡ some o → Promised (runOf table clock firsts stolen) i o b e
 
--- ENDS IN TIME, for any number of planned objects. From an instant b with nothing left over, up to any instant e before which no slot is
--- stolen, the job of the release at r is done within its deadline: from then to the next release nothing is left of it, and its value is stored.
-pub ends-in-time : (os : List Object) (stolen : ℕ → Bool) → PlannedRows (plansOf os) → InPhase os → (b e : ℕ) → Quiet (history os stolen b) → Unstolen stolen b e
-    → (i : ℕ) (o : Object) → getElem? os i ≡ some o → (k r : ℕ) → r ≡ o .first + k * o .plan .period → b ≤ r
-    → (t : ℕ) → r + o .plan .deadline ≤ t → t ≤ r + o .plan .period → t ≤ e → (state os stolen i t .left ≡ 0) × (state os stolen i t .value ≡ some r)
-ends-in-time os stolen rows phased = job-done os stolen (record { phased = phased; rows = rows })
+-- of an acceptable run, however it came about: the ages of its samples are taken on trust
+pub record OfRun (run : Run) : Type 0 where
+  -- A SLOT is the three steps on the rows in use, and keeps the run acceptable.
+  pub slot : (stolen : Bool) → (steppedOf run stolen ≡ stepped (slotOf run stolen))
+      × (usedRows (slotOf run stolen) ≡ stepThree (tick (run .clock)) (stepTwo stolen (stepOne (run .clock) (usedRows run))))
+      × Fits (slotOf run stolen) × (acceptable (slotOf run stolen) ≡ true)
+  -- CALLS of `slot` and `advance`, each on the run that the one before handed back: the run after so many slots, none refused.
+  pub calls : (cs : List Call) → callsOf run cs ≡ stepped (runAfter run (stolenBy cs) (slotsIn cs))
+  -- Releases are due one period after another, the first of them counted from the clock.
+  pub due : (stolen : ℕ → Bool) (i : ℕ) (row : RunRow) → getElem? (usedRows run) i ≡ some row
+      → (t : ℕ) → DueAt (runAfter run stolen) i t ↔ IsRelease (objectOf (run .clock) row) t
+  -- DEMAND 3 where nothing is left over and the rows are planned.
+  pub demand-3 : NothingLeft run → PlannedRows (plans (usedRows run)) → (stolen : ℕ → Bool) (e : ℕ) → Unstolen stolen 0 e
+      → (i : ℕ) (row : RunRow) → getElem? (usedRows run) i ≡ some row → Promised (runAfter run stolen) i (objectOf (run .clock) row) 0 e
 
--- The rows of an accepted plan are so planned.
-pub plan-is-planned : (table : Table) → planOf table .verdict ≡ Accepted → PlannedRows (plannedRows (planOf table .plan))
-plan-is-planned table accepted = plan-rows table accepted .rows
+-- ── All of them ──
 
--- ── An accepted start, whatever slots are stolen and however often the clock wraps ──
-
-module _ (table : Table) (clock : ℕ) (firsts : List ℕ) (accepted : startOf table clock firsts .verdict ≡ Accepted) (low : clock < 2 ^ 32) where
-  -- TIE. The run after t slots is the history at t, in 32 bits: clock, next release, work left, sample, lapse marks, stored value, skips.
-  pub tie : (stolen : ℕ → Bool) (t : ℕ) → runOf table clock firsts stolen t ≡ encodeRun clock t (objectsIn table firsts) (history (objectsIn table firsts) stolen t)
-  tie = start-history table clock firsts accepted low
-
-  -- NEVER 13. A started run is acceptable; no step from there is refused, and each is a slot.
-  pub start-acceptable : Fits (startOf table clock firsts .run) × (acceptable (startOf table clock firsts .run) ≡ true)
-  start-acceptable = start-accepted table clock firsts accepted low
-
-  pub never-13 : (stolen : ℕ → Bool) (t : ℕ) → stepsAfter (startOf table clock firsts .run) stolen t ≡ stepped (runOf table clock firsts stolen t)
-  never-13 stolen = steps-slots (startOf table clock firsts .run) stolen (start-acceptable .0) (start-acceptable .1)
-
-  -- Many slots in one call are the run after so many slots.
-  pub advance-is-run : (ss : List ℕ) → advancedOf (startOf table clock firsts .run) ss ≡ stepped (runOf table clock firsts (stolenIn ss) (length ss))
-  advance-is-run = advance-after (startOf table clock firsts .run) (start-acceptable .1)
-
-  -- the object o stands at place i
-  module _ (stolen : ℕ → Bool) (i : ℕ) (o : Object) (place : getElem? (objectsIn table firsts) i ≡ some o) where
-    -- FRESH IS TRUE. A reading is fresh exactly while there is a value whose true age is below the validity, and tells that age.
-    pub fresh-is-true : (t : ℕ) → readingOf (runOf table clock firsts stolen t) (o .plan .id) ≡ trueReading (trueAge t (state (objectsIn table firsts) stolen i t .value)) (o .plan .validity)
-    fresh-is-true = start-reading table clock firsts accepted low stolen i o place
-
-    -- That value was sampled before t.
-    pub sampled-before : (t p : ℕ) → state (objectsIn table firsts) stolen i t .value ≡ some p → p < t
-    sampled-before = start-stored table clock firsts accepted low stolen i o place
-
-    -- DEMAND 3, from any instant b with nothing left over, up to any instant e before which no slot is stolen.
-    module _ (b e : ℕ) (rest : NothingLeft (runOf table clock firsts stolen b)) (given : Unstolen stolen b e) where
-      promise : Promised (runOf table clock firsts stolen) (o .plan) (o .first) i b e
-      promise = start-promised table clock firsts accepted low stolen i o place b e rest given
-
-      -- Releases are due at first + k · period and at no other instant.
-      pub demand-3-due : (r : ℕ) → b ≤ r → r ≤ e → (runRow (runOf table clock firsts stolen r) i .next ≡ runOf table clock firsts stolen r .clock) ↔ ((k : ℕ) × (r ≡ o .first + k * o .plan .period))
-      demand-3-due = promise .due
-
-      -- At each nothing is left of the job before, and step 1 begins a job, sampled at its release.
-      pub demand-3-begins : (k r : ℕ) → r ≡ o .first + k * o .plan .period → b ≤ r → r ≤ e
-          → (runRow (runOf table clock firsts stolen r) i .left ≡ 0)
-          × (releasedOf (runOf table clock firsts stolen r .clock) (runRow (runOf table clock firsts stolen r) i) ≡ begunOf (runOf table clock firsts stolen r .clock) (runRow (runOf table clock firsts stolen r) i))
-      demand-3-begins = promise .begins
-
-      -- It is done within its deadline: from then to the next release nothing is left of it, and its value is stored.
-      pub demand-3-in-time : (k r : ℕ) → r ≡ o .first + k * o .plan .period → b ≤ r → (t : ℕ) → r + o .plan .deadline ≤ t → t ≤ r + o .plan .period → t ≤ e
-          → (runRow (runOf table clock firsts stolen t) i .left ≡ 0) × (runRow (runOf table clock firsts stolen t) i .stored ≡ Held (runOf table clock firsts stolen r .clock))
-      demand-3-in-time = promise .done
-
-      -- None is skipped.
-      pub demand-3-no-skip : (t : ℕ) → b ≤ t → t ≤ e → runRow (runOf table clock firsts stolen t) i .skips ≡ runRow (runOf table clock firsts stolen b) i .skips
-      demand-3-no-skip = promise .no-skip
-
-      -- From one validity interval on each reading is fresh.
-      pub demand-3-fresh : (t : ℕ) → b + o .plan .validity ≤ t → t ≤ e → (age : ℕ) × (readingOf (runOf table clock firsts stolen t) (o .plan .id) ≡ Fresh age) × (age < o .plan .validity)
-      demand-3-fresh = promise .fresh
-
--- SAME AHEAD, SAME ANSWER. Two plans that agree on the first k objects, started at one clock with the same first releases of these and
--- the same slots stolen, give each of these the same row at every instant, so the same starts, finishes and skips; and the same readings.
-pub same-ahead : (table table′ : Table) (firsts firsts′ : List ℕ) (clock : ℕ)
-    → startOf table clock firsts .verdict ≡ Accepted → startOf table′ clock firsts′ .verdict ≡ Accepted → clock < 2 ^ 32
-    → (k : ℕ) → take k (plannedRows (planOf table .plan)) ≡ take k (plannedRows (planOf table′ .plan)) → take k firsts ≡ take k firsts′
-    → (i : ℕ) (o : Object) → i < k → getElem? (objectsIn table firsts) i ≡ some o → (stolen : ℕ → Bool) (t : ℕ)
-    → (runRow (runOf table clock firsts stolen t) i ≡ runRow (runOf table′ clock firsts′ stolen t) i)
-    × (readingOf (runOf table clock firsts stolen t) (o .plan .id) ≡ readingOf (runOf table′ clock firsts′ stolen t) (o .plan .id))
-same-ahead table table′ firsts firsts′ clock accepted accepted′ low k ps fs i o h place stolen t =
-    (starts-row table table′ firsts firsts′ clock accepted accepted′ low k ps fs i o h place stolen t, starts-reading table table′ firsts firsts′ clock accepted accepted′ low k ps fs i o h place stolen t)
-
--- ── Any run whose fields fit their words, however it came about ──
-
--- NEVER 13. A slot keeps an acceptable run acceptable; no step from there is refused, and each is a slot.
-pub slot-acceptable : (run : Run) (stolen : Bool) → Fits run → acceptable run ≡ true → Fits (slotOf run stolen) × (acceptable (slotOf run stolen) ≡ true)
-slot-acceptable run stolen w ok = (slot-fits run stolen w ok, slot-keeps run stolen w ok)
-
-pub steps-are-slots : (run : Run) (stolen : ℕ → Bool) → Fits run → acceptable run ≡ true → (t : ℕ) → stepsAfter run stolen t ≡ stepped (runAfter run stolen t)
-steps-are-slots = steps-slots
-
--- Many slots in one call are the steps one after the other, refused or not.
-pub advance-is-steps : (run : Run) → Fits run → (s : ℕ) (ss : List ℕ) → advancedOf run (s ∷ ss) ≡ stepsOver (steppedOf run (isStolen s)) ss
-advance-is-steps = advance-steps
-
--- DEMAND 3 from an acceptable run with nothing left over whose rows are planned, up to any instant e before which no slot is stolen.
--- The row stands at place i; its next release is counted from the clock.
-module _ (run : Run) (w : Fits run) (ok : acceptable run ≡ true) (rest : NothingLeft run) (planned : PlannedRows (map (λ (r : RunRow). r .planned) (usedRows run)))
-    (stolen : ℕ → Bool) (e : ℕ) (given : Unstolen stolen 0 e) (i : ℕ) (row : RunRow) (place : getElem? (usedRows run) i ≡ some row) where
-  rest-promise : Promised (runAfter run stolen) (row .planned) (ageOf (row .next) (run .clock)) i 0 e
-  rest-promise = row-promised run stolen w ok rest planned e given i row place
-
-  pub demand-3-rest-due : (r : ℕ) → r ≤ e → (runRow (runAfter run stolen r) i .next ≡ runAfter run stolen r .clock) ↔ ((k : ℕ) × (r ≡ ageOf (row .next) (run .clock) + k * row .planned .period))
-  demand-3-rest-due r = rest-promise .due r (omega arith)
-
-  pub demand-3-rest-begins : (k r : ℕ) → r ≡ ageOf (row .next) (run .clock) + k * row .planned .period → r ≤ e
-      → (runRow (runAfter run stolen r) i .left ≡ 0)
-      × (releasedOf (runAfter run stolen r .clock) (runRow (runAfter run stolen r) i) ≡ begunOf (runAfter run stolen r .clock) (runRow (runAfter run stolen r) i))
-  demand-3-rest-begins k r x = rest-promise .begins k r x (omega arith)
-
-  pub demand-3-rest-in-time : (k r : ℕ) → r ≡ ageOf (row .next) (run .clock) + k * row .planned .period → (t : ℕ) → r + row .planned .deadline ≤ t → t ≤ r + row .planned .period → t ≤ e
-      → (runRow (runAfter run stolen t) i .left ≡ 0) × (runRow (runAfter run stolen t) i .stored ≡ Held (runAfter run stolen r .clock))
-  demand-3-rest-in-time k r x = rest-promise .done k r x (omega arith)
-
-  pub demand-3-rest-no-skip : (t : ℕ) → t ≤ e → runRow (runAfter run stolen t) i .skips ≡ runRow run i .skips
-  unfolding runAfter
-  demand-3-rest-no-skip t u = rest-promise .no-skip t (omega arith) u
-
-  pub demand-3-rest-fresh : (t : ℕ) → row .planned .validity ≤ t → t ≤ e → (age : ℕ) × (readingOf (runAfter run stolen t) (row .planned .id) ≡ Fresh age) × (age < row .planned .validity)
-  demand-3-rest-fresh t l = rest-promise .fresh t (omega arith)
+pub record Promises : Type 0 where
+  pub of-table : (table : Table) → OfTable table
+  pub of-start : (table : Table) (clock : ℕ) (firsts : List ℕ) → startOf table clock firsts .verdict ≡ Accepted → clock < 2 ^ 32
+      → OfStart table clock firsts
+  pub of-run : (run : Run) → Fits run → acceptable run ≡ true → OfRun run
+  -- READ EXACTLY. 13 exactly if the state is not acceptable, 14 exactly if it is and no row in use has the id.
+  pub reads-13 : (run : Run) (id : ℕ) → (readingTold (readingOf run id) .refusal ≡ 13 atPlace 0) ↔ (acceptable run ≡ false)
+  pub reads-14 : (run : Run) (id : ℕ)
+      → (readingTold (readingOf run id) .refusal ≡ 14 atPlace 0) ↔ ((acceptable run ≡ true) × NoneHas id (usedRows run))
+  -- SAME AHEAD, SAME ANSWER. Two tables that agree on the first k objects, started with equal clocks, stolen slots and first releases of
+  -- these, give each of these the same row at every instant, so the same starts, finishes and skips, and the same readings.
+  pub same-ahead : (a b : Table) (clock : ℕ) (f g : List ℕ) → startOf a clock f .verdict ≡ Accepted → startOf b clock g .verdict ≡ Accepted
+      → clock < 2 ^ 32 → (k : ℕ) → take k (ordered a) ≡ take k (ordered b) → take k f ≡ take k g
+      → (i : ℕ) (o : Object) → i < k → getElem? (objectsIn a f) i ≡ some o → (stolen : ℕ → Bool) (t : ℕ)
+      → (runRow (runOf a clock f stolen t) i ≡ runRow (runOf b clock g stolen t) i)
+      × (readingOf (runOf a clock f stolen t) (o .plan .id) ≡ readingOf (runOf b clock g stolen t) (o .plan .id))
+  -- IN TIME. What demand 3 says, in true time and for any number of planned objects.
+  pub in-history : (os : List Object) (stolen : ℕ → Bool) → PlannedRows (plansOf os) → InPhase os
+      → (b e : ℕ) → Quiet (history os stolen b) → Unstolen stolen b e
+      → (i : ℕ) (o : Object) → getElem? os i ≡ some o → KeptInHistory os stolen i o b e

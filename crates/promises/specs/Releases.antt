@@ -13,7 +13,7 @@ use Rattle.promises.specs.Track.{track, supply, free, state-track}
 use Rattle.promises.specs.Window.{tally, unit, due, next-bounds, next-window}
 
 -- of the instants f + n * p there is one in each p instants
-same-multiple : (f k n p x : ℕ) → x ≡ f + n * p → f + k * p ≤ x → x < f + k * p + p → x ≡ f + k * p
+pub same-multiple : (f k n p x : ℕ) → x ≡ f + n * p → f + k * p ≤ x → x < f + k * p + p → x ≡ f + k * p
 same-multiple f k n p x e l u =
     let a : n < suc k = lt-of-mul-lt-mul-right p (omega arith) in
     let b : k < suc n = lt-of-mul-lt-mul-right p (omega arith) in
@@ -22,7 +22,7 @@ same-multiple f k n p x e l u =
 
 module _ (o : Object) (s : ℕ → Bool) where
   -- the next release is one of first + k * period
-  next-form : (t : ℕ) → track o s t .next ≡ o .first + tally (λ u. unit (due o s u)) 0 t * o .plan .period
+  pub next-form : (t : ℕ) → track o s t .next ≡ o .first + tally (λ u. unit (due o s u)) 0 t * o .plan .period
   unfolding track
   next-form t = rw zero-add at (next-window o s 0 t)
 

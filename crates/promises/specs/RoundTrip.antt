@@ -3,22 +3,17 @@
 -- Assumes nothing but what each statement says. Bytes are lists of numbers below 256.
 use Prim.Native.Nat.{ℕ, zero, suc, _+_, _-_, _*_, _/_, _%_, _≤_, _<_}
 use mathlib.Core.Path.{_≡_, refl, sym, ap, ap₂, _∙_, subst}
-use mathlib.Core.Bool.{cond}
 use mathlib.Core.List.{List, [], _∷_, _++_, map, append-assoc, append-nil}
 use native.Mathlib.Decide.{decLt}
 use native.Mathlib.Omega.{arith}
 use native.Mathlib.Numerals.{add-one}
-use borrow.Author.Tests.{eq-eqb, eqb-true, le-leb}
-use lib.Dec.{eqb}
-use lib.ListN.{length, take, drop, getD, replicate, length-append, length-drop, take-append-drop, List·getD-eq-default}
+use borrow.Author.Tests.{le-leb}
+use lib.ListN.{length, take, drop, getD, length-append, length-drop, take-append-drop, List·getD-eq-default}
 use lib.Seq.{take-append-seam, getD-append-add, drop-drop, take-add, drop-cons, take-all, length-take-le}
 use Rattle.rules.specs.declared.ObjectRow.{ObjectRow}
-use Rattle.rules.specs.declared.ReadTable.{ReadTable}
 use Rattle.rules.specs.declared.Table.{Table}
-use Rattle.rules.specs.declared.Verdict.{Verdict}
 use Rattle.rules.specs.declared.Verdict.the-variants.{Accepted}
-use Rattle.rules.specs.Refusals.{firstRefusal}
-use Rattle.rules.specs.StoredTable.{noRow, tableOf, tableSize, rowsIn, le16, le32, distanceOf, countOf, markOf, tableMark, rowOf, spareOf, recordsOf, recordsStart, storedRows, storedSpares, countVerdict, checksFrom, tableVerdict, trailerVerdict, readVerdict, readOf}
+use Rattle.rules.specs.StoredTable.{tableOf, tableSize, rowsIn, le16, le32, distanceOf, countOf, markOf, tableMark, rowOf, spareOf, recordsOf, recordsStart, storedRows, storedSpares, countVerdict, checksFrom, tableVerdict, trailerVerdict, readVerdict, readOf}
 use Rattle.rules.specs.Writing.{bytes16, bytes32, recordBytes, recordsBytes, trailerBytes, tableBytes, roomVerdict, writeVerdict, writtenOf, bufferAfter}
 use Rattle.rules.proofs.Lists.{Every, every-at}
 use Rattle.rules.proofs.Checks.{both-accept, count-in, count-said, same-spares, first-passed}

@@ -20,6 +20,10 @@ use Rattle.rules.proofs.Lists.{standing}
 use Rattle.promises.specs.Tie.{startWith, run-row}
 use Rattle.promises.specs.NeverRefused.{Startable}
 use Rattle.promises.specs.Readings.{reading-true}
+use Rattle.promises.specs.SamePlan.{same-ahead-same-plan}
+use Rattle.promises.specs.PlanExactly.{ordered}
+use Rattle.promises.specs.StartExactly.{start-planned}
+use Rattle.promises.specs.Promises.{runOf}
 use Rattle.promises.specs.Starts.{StartedWith, started-with}
 
 -- the objects of rows and first releases that agree on the first k
@@ -84,3 +88,17 @@ module _ (table table′ : Table) (firsts firsts′ : List ℕ) (clock : ℕ) (a
   starts-reading =
       rw (with .run-is, with′ .run-is)
       (rw (here .1) at (same-reading k (objectsIn table firsts) (objectsIn table′ firsts′) same-objects i h clock stolen low (with .startable) (with′ .startable) (here .0) t))
+
+-- the same of two tables that agree on the first k objects in priority order
+pub same-tables : (a b : Table) (clock : ℕ) (f g : List ℕ) → startOf a clock f .verdict ≡ Accepted → startOf b clock g .verdict ≡ Accepted
+    → clock < 2 ^ 32 → (k : ℕ) → take k (ordered a) ≡ take k (ordered b) → take k f ≡ take k g
+    → (i : ℕ) (o : Object) → i < k → getElem? (objectsIn a f) i ≡ some o → (stolen : ℕ → Bool) (t : ℕ)
+    → (runRow (runOf a clock f stolen t) i ≡ runRow (runOf b clock g stolen t) i)
+    × (readingOf (runOf a clock f stolen t) (o .plan .id) ≡ readingOf (runOf b clock g stolen t) (o .plan .id))
+same-tables a b clock f g accepted accepted′ low k rows firsts i o h place stolen t =
+    let planned = start-planned (planOf a) clock f accepted in
+    let planned′ = start-planned (planOf b) clock g accepted′ in
+    let plans = same-ahead-same-plan a b planned planned′ k rows in (
+      starts-row a b f g clock accepted accepted′ low k plans firsts i o h place stolen t,
+      starts-reading a b f g clock accepted accepted′ low k plans firsts i o h place stolen t,
+    )

@@ -9,17 +9,15 @@ use lib.ListN.{length, take, getD, replicate, length-take}
 use lib.Seq.{take-append-seam, take-take, getD-take}
 use Rattle.rules.specs.declared.ObjectRow.{ObjectRow}
 use Rattle.rules.specs.declared.PlanRow.{PlanRow}
-use Rattle.rules.specs.declared.Plan.{Plan}
 use Rattle.rules.specs.declared.Planned.{Planned}
 use Rattle.rules.specs.declared.Table.{Table}
-use Rattle.rules.specs.declared.Refusal.{Refusal}
-use Rattle.rules.specs.declared.Refusal.the-variants.{NoDeadline}
 use Rattle.rules.specs.declared.Verdict.{Verdict}
 use Rattle.rules.specs.declared.Verdict.the-variants.{Accepted, Refused}
 use Rattle.rules.specs.StoredTable.{noRow, tableVerdict}
+use Rattle.rules.specs.Refusals.{_atPlace_, told}
 use Rattle.rules.specs.Order.{inOrder}
-use Rattle.rules.specs.Deadlines.{planRow, noPlanRow, acceptedPlan, refusedPlan, onAccepted, planFrom, planOf, plannedRows}
-use Rattle.promises.specs.Exactly.{PlannedAs, FirstWithout, refused-exactly, planned-or-refused, one-deadline, IsDeadline}
+use Rattle.rules.specs.Deadlines.{planRow, noPlanRow, planOf, plannedRows}
+use Rattle.promises.specs.Exactly.{PlannedAs, refused-exactly, planned-or-refused, one-deadline, IsDeadline}
 use Rattle.promises.specs.Exactly.PlannedAs.{done, next}
 
 -- rows that agree up to k are planned alike up to k
@@ -58,7 +56,7 @@ same-ahead-same-plan t t′ a a′ k e = agree k (planned-as t a) (planned-as t�
 -- the first k objects agree, and one of them is the first without a deadline: so it is in the other table
 pub same-ahead-same-refusal : (t t′ : Table) → tableVerdict t ≡ Accepted → tableVerdict t′ ≡ Accepted → (k j : ℕ) → j < k
     → take k (inOrder (t .rows) (t .count)) ≡ take k (inOrder (t′ .rows) (t′ .count))
-    → planOf t .verdict ≡ Refused NoDeadline j → planOf t′ .verdict ≡ Refused NoDeadline j
+    → told (planOf t .verdict) ≡ 10 atPlace j → told (planOf t′ .verdict) ≡ 10 atPlace j
 same-ahead-same-refusal t t′ w w′ k j h e refused =
     let rs = inOrder (t .rows) (t .count) in
     let rs′ = inOrder (t′ .rows) (t′ .count) in

@@ -16,7 +16,6 @@ use Rattle.rules.specs.declared.Table.{Table}
 use Rattle.rules.specs.declared.Refusal.the-variants.{TooLong}
 use Rattle.rules.specs.declared.Verdict.{Verdict}
 use Rattle.rules.specs.declared.Verdict.the-variants.{Accepted, Refused}
-use Rattle.rules.specs.Refusals.{firstRefusal}
 use Rattle.rules.specs.StoredTable.{mostBytes, tableOf, rowsIn, refusedRead, answer, countVerdict, checksFrom, checksOf, tableVerdict, doorOf}
 use Rattle.rules.specs.Writing.{roomVerdict, toldOf, leftOf}
 use Rattle.rules.specs.Sheet.{lineBytes, sheetBytes, Lines, allRows, badLine, linesOf, linesAnswer, importOf, exportVerdict, exportedOf, sheetAfter}

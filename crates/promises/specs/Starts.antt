@@ -18,8 +18,8 @@ use Rattle.rules.specs.declared.Verdict.{Verdict}
 use Rattle.rules.specs.declared.Verdict.the-variants.{Accepted, Refused}
 use Rattle.rules.specs.RunState.{acceptable}
 use Rattle.rules.specs.Deadlines.{planOf, plannedRows}
-use Rattle.rules.specs.Run.{startedRun, firstsFrom, firstsVerdict, started, startOf, readingOf, trueReading}
-use Rattle.promises.specs.History.{Object, noObject, objectsOf, objectsIn, history, object, plansOf, state, trueAge, Unstolen, InPhase}
+use Rattle.rules.specs.Run.{startedRun, firstsFrom, firstsVerdict, started, startOf}
+use Rattle.promises.specs.History.{Object, noObject, objectsOf, objectsIn, history, object, plansOf, state, Unstolen, InPhase}
 use Rattle.rules.proofs.Checks.{both-accept, test-passed, refused-not}
 use Rattle.promises.specs.Plans.{plan-rows}
 use Rattle.promises.specs.InTime
@@ -27,10 +27,12 @@ use Rattle.promises.specs.Sound.{planned-runnable}
 use Rattle.rules.proofs.Lists.{standing}
 use Rattle.promises.specs.Encode.{runAfter, Fits, NothingLeft, encodeRun}
 use Rattle.promises.specs.Bounds.{state-bounded}
+use Rattle.promises.specs.Sampled.{samples-released}
 use Rattle.promises.specs.Tie.{firstsOf, startWith, run-history}
 use Rattle.promises.specs.NeverRefused.{Startable, start-fits, start-acceptable}
 use Rattle.promises.specs.Readings.{reading-true}
-use Rattle.promises.specs.Demand3.{Promised, promised}
+use Rattle.promises.specs.Demand3.{due-at, promised}
+use Rattle.promises.specs.Promises.{Promised, InEveryRun}
 
 started-accepted : (v : Verdict) (run : Run) → started v run .verdict ≡ Accepted → (v ≡ Accepted) × (started v run .run ≡ run)
 started-accepted Accepted run e = (refl, refl)
@@ -98,13 +100,20 @@ module _ (table : Table) (clock : ℕ) (firsts : List ℕ) (accepted : startOf t
     here : (i < length (objectsIn table firsts)) × (object (objectsIn table firsts) i ≡ o)
     here = standing noObject (objectsIn table firsts) i o place
 
-    pub start-reading : (t : ℕ) → readingOf (runAfter (startOf table clock firsts .run) stolen t) (o .plan .id) ≡ trueReading (trueAge t (state (objectsIn table firsts) stolen i t .value)) (o .plan .validity)
-    start-reading t = rw (with .run-is) (rw (here .1) at (reading-true clock (objectsIn table firsts) stolen low (with .startable) t i (here .0)))
+    pub start-every-run : InEveryRun (runAfter (startOf table clock firsts .run) stolen) (state (objectsIn table firsts) stolen i) i o
+    start-every-run =
+        let os = objectsIn table firsts in
+        let bounded = state-bounded os stolen (with .planned .phased) i (here .0) in
+        let of-releases = samples-released os stolen i (here .0) in
+        let every : InEveryRun (runAfter (startWith clock os) stolen) (state os stolen i) i (object os i) = record {
+          fresh-is-true = λ t. reading-true clock os stolen low (with .startable) t i (here .0);
+          stored-sample = λ t p e. (bounded t .stored p e, of-releases t .stored p e);
+          sample-in-hand = λ t h. (bounded t .in-hand h, of-releases t .in-hand h);
+          due = due-at clock os stolen low (with .startable) i (here .0);
+        } in
+        rw (with .run-is) (rw (here .1) at every)
 
-    pub start-stored : (t p : ℕ) → state (objectsIn table firsts) stolen i t .value ≡ some p → p < t
-    start-stored t = state-bounded (objectsIn table firsts) stolen (with .planned .phased) i (here .0) t .stored
-
-    pub start-promised : (b e : ℕ) → NothingLeft (runAfter (startOf table clock firsts .run) stolen b) → Unstolen stolen b e → Promised (runAfter (startOf table clock firsts .run) stolen) (o .plan) (o .first) i b e
+    pub start-promised : (b e : ℕ) → NothingLeft (runAfter (startOf table clock firsts .run) stolen b) → Unstolen stolen b e → Promised (runAfter (startOf table clock firsts .run) stolen) i o b e
     start-promised b e q given =
         let rest : NothingLeft (runAfter (startWith clock (objectsIn table firsts)) stolen b) = rw (with .run-is) at q in
         rw (with .run-is) (rw (here .1) at (promised clock (objectsIn table firsts) stolen low (with .startable) (with .planned) b e given rest i (here .0)))

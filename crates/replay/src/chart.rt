@@ -10,7 +10,7 @@ use printing::put_text;
 use rules::Run;
 
 // The first slot that is drawn.
-pub fn first_drawn(slots: usize) -> usize {
+pub(crate) fn first_drawn(slots: usize) -> usize {
     if slots < 100 { 0 } else { slots - 100 }
 }
 
@@ -22,7 +22,7 @@ fn width_of(slots: usize) -> usize
 }
 
 // Whether the slot of a column is stolen.
-pub fn mark(marks: &mut [u8; 100], column: usize, taken: bool) {
+pub(crate) fn mark(marks: &mut [u8; 100], column: usize, taken: bool) {
     if column < 100 {
         if taken {
             marks[column] = b'x';
@@ -50,7 +50,7 @@ fn sign_at(signs: &[u8; 6400], row: usize, column: usize) -> u8 {
 }
 
 // What the slot of a column did to each object.
-pub fn draw(
+pub(crate) fn draw(
     jobs: &mut [u8; 6400],
     values: &mut [u8; 6400],
     column: usize,
@@ -70,13 +70,11 @@ pub fn draw(
 // What the signs mean.
 fn print_legend() {
     printing::text(
-        b"Objects in priority order: a job waits for those above it, or for a slot that is not stolen.\n",
+        b"Objects in priority order: a job waits for those above it, or for a slot that is not stolen.\n\
+job:   R released and ran    # ran    * ran, a release skipped    . no job in hand\n\
+\x20      r released and waits  - waits  ! waits, a release skipped\n\
+value: = fresh  ? stale  blank: none yet      stolen slots: x\n",
     );
-    printing::text(
-        b"job:   R released and ran    # ran    * ran, a release skipped    . no job in hand\n",
-    );
-    printing::text(b"       r released and waits  - waits  ! waits, a release skipped\n");
-    printing::text(b"value: = fresh  ? stale  blank: none yet      stolen slots: x\n");
 }
 
 // Where the chart begins, if not with slot 0.
@@ -154,7 +152,13 @@ fn print_objects(run: Run, jobs: &[u8; 6400], values: &[u8; 6400], width: usize)
     }
 }
 
-pub fn print(run: Run, slots: usize, jobs: &[u8; 6400], values: &[u8; 6400], marks: &[u8; 100]) {
+pub(crate) fn print(
+    run: Run,
+    slots: usize,
+    jobs: &[u8; 6400],
+    values: &[u8; 6400],
+    marks: &[u8; 100],
+) {
     let width = width_of(slots);
     print_legend();
     print_part(slots);

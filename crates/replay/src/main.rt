@@ -76,7 +76,7 @@ fn with_stolen(count: usize, slots: usize, firsts: List) {
     if words::is_pattern(&word[..n]) {
         answer_file(slots, firsts, &word[..n]);
     } else {
-        words::wrong_stolen();
+        words::usage(3);
     }
 }
 
@@ -86,7 +86,7 @@ fn with_firsts(count: usize, slots: usize) {
     if firsts.good {
         with_stolen(count, slots, firsts);
     } else {
-        words::wrong_firsts();
+        words::usage(2);
     }
 }
 
@@ -94,12 +94,12 @@ fn with_firsts(count: usize, slots: usize) {
 fn main() {
     let count = os::arg_count();
     if (count < 2) | (5 < count) {
-        words::usage();
+        words::usage(0);
         return;
     }
     let slots = words::slots(count);
     if slots == 0 {
-        words::wrong_slots();
+        words::usage(1);
     } else {
         with_firsts(count, slots);
     }

@@ -2,48 +2,30 @@
 use rules::Refusal;
 use rules::Table;
 
-// Refusals 1 to 4.
-fn print_first(number: u8) {
-    match number {
-        1 => printing::text(b"the file has fewer than 8 bytes\n"),
-        2 => printing::text(b"the file has more than 4096 bytes\n"),
-        3 => printing::text(b"the file does not end in the mark of a stored table\n"),
-        _ => printing::text(b"the count of objects is 0 or above 64\n"),
-    }
-}
-
-// Refusals 5 to 8.
-fn print_second(number: u8) {
-    match number {
-        5 => printing::text(b"the distance is too small for so many records\n"),
-        6 => printing::text(b"the spare bytes of this record are not zero\n"),
-        7 => printing::text(b"the cost in this record is not from 1 to 1000000\n"),
-        _ => printing::text(b"the validity in this record is not from 2 to 1000000\n"),
-    }
-}
-
-// Refusals 9 to 12, and 15; no table or start meets another.
-fn print_third(number: u8) {
-    match number {
-        9 => printing::text(b"the id in this record is that of an earlier record\n"),
-        10 => printing::text(b"the object at this place in priority order has no deadline\n"),
-        11 => printing::text(b"there are not as many first releases as objects\n"),
-        12 => printing::text(b"this first release, in priority order, is not below its period\n"),
-        _ => printing::text(b"the distance is above the number of bytes\n"),
-    }
-}
-
-pub fn print(refusal: Refusal, place: usize) {
+// The refusal in words, a line each by number; no table or start meets one that has an empty line.
+pub(crate) fn print(refusal: Refusal, place: usize) {
     printing::refused(refusal, place);
-    printing::text(b"\n");
-    let number = rules::refusal_number(refusal);
-    if number < 5 {
-        print_first(number);
-    } else if number < 9 {
-        print_second(number);
-    } else {
-        print_third(number);
-    }
+    printing::byte(b'\n');
+    printing::line_of(
+        b"\n\
+the file has fewer than 8 bytes\n\
+the file has more than 4096 bytes\n\
+the file does not end in the mark of a stored table\n\
+the count of objects is 0 or above 64\n\
+the distance is too small for so many records\n\
+the spare bytes of this record are not zero\n\
+the cost in this record is not from 1 to 1000000\n\
+the validity in this record is not from 2 to 1000000\n\
+the id in this record is that of an earlier record\n\
+the object at this place in priority order has no deadline\n\
+there are not as many first releases as objects\n\
+this first release, in priority order, is not below its period\n\
+\n\
+\n\
+the distance is above the number of bytes\n",
+        rules::refusal_number(refusal) as usize,
+    );
+    printing::byte(b'\n');
 }
 
 // What a reseller with many probes has to know of the object at a place: which row it is, and how far it is from fitting.
@@ -74,7 +56,7 @@ fn print_object(table: Table, place: usize) {
 }
 
 // A refusal of a start: with 10, the object is shown too.
-pub fn print_start(table: Table, refusal: Refusal, place: usize) {
+pub(crate) fn print_start(table: Table, refusal: Refusal, place: usize) {
     print(refusal, place);
     if rules::refusal_number(refusal) == 10 {
         print_object(table, place);

@@ -40,7 +40,7 @@ fn counted(stolen: u32, taken: bool) -> u32 {
 }
 
 // Runs the slots, one at a time, and draws the last ones.
-pub fn run_through(
+pub(crate) fn run_through(
     run: Run,
     slots: usize,
     pattern: &[u8],

@@ -11,14 +11,14 @@ use rules::Run;
 use rules::RunRow;
 
 // "objects N, slots S, stolen T".
-pub fn print_header(run: Run, slots: usize, stolen: u32) {
+pub(crate) fn print_header(run: Run, slots: usize, stolen: u32) {
     printing::text(b"objects ");
     printing::number(run.count as u64);
     printing::text(b", slots ");
     printing::number(slots as u64);
     printing::text(b", stolen ");
     printing::number(stolen as u64);
-    printing::text(b"\n");
+    printing::byte(b'\n');
 }
 
 // The planned numbers of an object.
@@ -104,7 +104,7 @@ fn print_end(run: Run, all: Tallies, slots: usize) {
     }
 }
 
-pub fn print(run: Run, all: Tallies, slots: usize) {
+pub(crate) fn print(run: Run, all: Tallies, slots: usize) {
     print_rows(run, all);
     print_end(run, all, slots);
 }

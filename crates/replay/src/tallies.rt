@@ -19,7 +19,7 @@ pub struct Tallies {
     pub rows: [Tally; 64],
 }
 
-pub fn no_tallies() -> Tallies {
+pub(crate) fn no_tallies() -> Tallies {
     let none = Tally {
         sampled: 0,
         longest: 0,
@@ -65,7 +65,7 @@ fn chosen(test: bool, yes: u8, no: u8) -> u8 {
 }
 
 // The sign of the job: upper line of an object.
-pub fn job_sign(clock: u32, before: RunRow, after: RunRow) -> u8 {
+pub(crate) fn job_sign(clock: u32, before: RunRow, after: RunRow) -> u8 {
     let worked = ran(clock, before, after);
     if before.next == clock {
         if before.left == 0 {
@@ -79,7 +79,7 @@ pub fn job_sign(clock: u32, before: RunRow, after: RunRow) -> u8 {
 }
 
 // The sign of the value after the slot: lower line of an object.
-pub fn value_sign(after: RunRow) -> u8 {
+pub(crate) fn value_sign(after: RunRow) -> u8 {
     let stored = after.stored;
     match stored {
         Stored::Empty => b' ',
@@ -132,7 +132,7 @@ fn tallied_row(tally: Tally, clock: u32, before: RunRow, after: RunRow) -> Tally
 }
 
 // All tallies after one slot more.
-pub fn tallied(tallies: Tallies, before: Run, after: Run) -> Tallies {
+pub(crate) fn tallied(tallies: Tallies, before: Run, after: Run) -> Tallies {
     let mut rows = tallies.rows;
     for i in 0..64usize {
         if i < before.count {
@@ -147,7 +147,7 @@ pub fn tallied(tallies: Tallies, before: Run, after: Run) -> Tallies {
 }
 
 // The instant after the last slot that left some object with no value or a stale one.
-pub fn last_lacking(tallies: Tallies, count: usize) -> u32 {
+pub(crate) fn last_lacking(tallies: Tallies, count: usize) -> u32 {
     let rows = tallies.rows;
     let mut last = 0;
     for i in 0..64usize {

@@ -4,7 +4,7 @@ use libc::STDERR_FILENO;
 use rules::Started;
 use rules::Table;
 
-// A list of numbers parted by commas, read up to some byte: whether it is in order so far, whether a number is open and
+// A list of numbers separated by commas, read up to some byte: whether it is in order so far, whether a number is open and
 // its value, and the numbers before it. One place more than objects are possible, so that too many are seen to be so.
 pub struct List {
     pub good: bool,
@@ -96,7 +96,7 @@ fn listed(bytes: &[u8]) -> List {
 }
 
 // SLOTS, 60 where it is not given; 0 where it is not a number from 1 to 1,000,000.
-pub fn slots(count: usize) -> usize
+pub(crate) fn slots(count: usize) -> usize
     ensures { λ r. ⌜ r ≤ 1000000 ⌝ }
 {
     if count < 3 {
@@ -123,7 +123,7 @@ fn slots_of(list: List) -> usize
 }
 
 // FIRSTS, a single 0 where it is not given.
-pub fn firsts(count: usize) -> List {
+pub(crate) fn firsts(count: usize) -> List {
     if count < 4 {
         return listed(b"0");
     }
@@ -133,7 +133,7 @@ pub fn firsts(count: usize) -> List {
 }
 
 // Whether the word is a pattern of '.' and 'x'.
-pub fn is_pattern(word: &[u8]) -> bool {
+pub(crate) fn is_pattern(word: &[u8]) -> bool {
     let mut good = word.len() != 0;
     for i in 0..word.len() {
         good = good & ((word[i] == b'.') | (word[i] == b'x'));
@@ -161,37 +161,28 @@ fn started_with(table: Table, firsts: &[u32], count: usize) -> Started {
 }
 
 // The start at clock 0 with the first releases that are meant.
-pub fn started(table: Table, firsts: List) -> Started {
+pub(crate) fn started(table: Table, firsts: List) -> Started {
     let numbers = firsts.numbers;
     started_with(table, &numbers, meant(firsts, table.count))
 }
 
-fn say(text: &[u8]) {
-    io::write_all(STDERR_FILENO, text);
-}
-
-// What the words are.
-pub fn usage() {
-    say(b"usage: replay FILE [SLOTS] [FIRSTS] [STOLEN]\n");
-    say(b"  FILE    a stored table\n");
-    say(b"  SLOTS   how many slots to run: 1 to 1000000, 60 if not given\n");
-    say(
-        b"  FIRSTS  first releases in priority order, as 2,1,0; 0 for all zero, also if not given\n",
+// What the words are, with a first line that says which of them is wrong; 0 where none is.
+pub(crate) fn usage(wrong: usize) {
+    if wrong != 0 {
+        printing::line_to_stderr(
+            b"\n\
+replay: SLOTS is not a number from 1 to 1000000\n\
+replay: FIRSTS is not a list of numbers separated by commas\n\
+replay: STOLEN is not a pattern of . and x\n",
+            wrong,
+        );
+    }
+    io::write_all(
+        STDERR_FILENO,
+        b"usage: replay FILE [SLOTS] [FIRSTS] [STOLEN]\n\
+\x20 FILE    a stored table\n\
+\x20 SLOTS   how many slots to run: 1 to 1000000, 60 if not given\n\
+\x20 FIRSTS  first releases in priority order, as 2,1,0; 0 for all zero, also if not given\n\
+\x20 STOLEN  which slots are stolen, over and over: . ours, x stolen, as xxx.\n",
     );
-    say(b"  STOLEN  which slots are stolen, over and over: . ours, x stolen, as xxx.\n");
-}
-
-pub fn wrong_slots() {
-    say(b"replay: SLOTS is not a number from 1 to 1000000\n");
-    usage();
-}
-
-pub fn wrong_firsts() {
-    say(b"replay: FIRSTS is not a list of numbers parted by commas\n");
-    usage();
-}
-
-pub fn wrong_stolen() {
-    say(b"replay: STOLEN is not a pattern of . and x\n");
-    usage();
 }

@@ -3,10 +3,14 @@ use Prim.Native.Nat.{ℕ}
 use mathlib.Core.Path.{_≡_, refl, sym, ap, _∙_}
 use mathlib.Core.List.{List, [], _∷_}
 use lib.ListN.{getD}
+use native.Mathlib.Omega.{arith}
+use Rattle.rules.specs.declared.Reading.{Reading}
+use Rattle.rules.specs.declared.Reading.the-variants as reading
+use Rattle.rules.specs.declared.Refusal.{Refusal}
 use Rattle.rules.specs.declared.Refusal.the-variants.{TooShort, TooLong, WrongMark, CountRange, DistanceSmall, SpareUsed, CostRange, ValidityRange, IdRepeated, NoDeadline, FirstsCount, FirstRange, NotRunState, NoSuchId, DistanceLarge, BufferSmall, LineForm}
 use Rattle.rules.specs.declared.Verdict.{Verdict}
 use Rattle.rules.specs.declared.Verdict.the-variants.{Accepted, Refused}
-use Rattle.rules.specs.Refusals.{Told, told}
+use Rattle.rules.specs.Refusals.{Told, told, readingTold}
 
 -- the verdicts at a place, by their numbers
 abbrev verdicts : ℕ → List Verdict
@@ -54,5 +58,12 @@ named (Refused DistanceLarge k) = refl
 named (Refused BufferSmall k) = refl
 named (Refused LineForm k) = refl
 
-pub told-settles : {v w : Verdict} → told v ≡ told w → v ≡ w
-told-settles {v} {w} e = sym (named v) ∙ (ap verdictOf e ∙ named w)
+pub told-settles : (v w : Verdict) → told v ≡ told w → v ≡ w
+told-settles v w e = sym (named v) ∙ (ap verdictOf e ∙ named w)
+
+-- and what a reading refuses
+pub reading-settles : (x : Reading) {r : Refusal} {k : ℕ} → readingTold x .refusal ≡ told (Refused r k) → x ≡ reading.Refused r k
+reading-settles reading.Never {r} {k} e = let z : _≡_ {A = ℕ} 0 1 = cc (told-settles Accepted (Refused r k) e) in absurd (omega arith)
+reading-settles reading.Stale {r} {k} e = let z : _≡_ {A = ℕ} 0 1 = cc (told-settles Accepted (Refused r k) e) in absurd (omega arith)
+reading-settles (reading.Fresh a) {r} {k} e = let z : _≡_ {A = ℕ} 0 1 = cc (told-settles Accepted (Refused r k) e) in absurd (omega arith)
+reading-settles (reading.Refused q j) {r} {k} e = cc (told-settles (Refused q j) (Refused r k) e)

@@ -1,7 +1,7 @@
 -- Laws of the fields of a line, by places in the bytes: where a number ends, what ends a field, what a field reads as. Assumes nothing.
-use Prim.Native.Nat.{ℕ, suc, _+_, _-_, _*_, _≤_, _<_}
-use mathlib.Core.Path.{_≡_, refl, sym, ap, _∙_}
-use mathlib.Core.Bool.{Bool, true, false, cond}
+use Prim.Native.Nat.{ℕ, _+_, _-_, _*_, _≤_, _<_}
+use mathlib.Core.Path.{_≡_, ap, _∙_}
+use mathlib.Core.Bool.{true, false}
 use mathlib.Core.List.{List, [], _∷_}
 use mathlib.Core.Option.{Option, none, some}
 use native.Mathlib.Omega.{arith}
@@ -9,9 +9,8 @@ use native.Mathlib.Numerals.{add-one}
 use borrow.Author.Tests.{lt-ltb, le-ltb, eq-eqb, ne-eqb}
 use lib.ListN.{length, drop, getD, drop-of-length-le}
 use lib.Seq.{drop-cons}
-use Rattle.rules.specs.declared.ObjectRow.{ObjectRow}
-use Rattle.rules.specs.Sheet.{isDigit, numberFrom, readNumber, stopped, fieldEnd, readField, readLine}
-use Rattle.rules.proofs.Digits.{digit-in, digit-below, digit-above, number-grows}
+use Rattle.rules.specs.Sheet.{isDigit, numberFrom, stopped, fieldEnd, readField, readLine}
+use Rattle.rules.proofs.Digits.{digit-in, number-grows}
 use Rattle.sheets.specs.declared.reading.Field.{Field}
 use Rattle.sheets.specs.declared.reading.Field.the-variants.{Missing, Found}
 use Rattle.sheets.specs.Found.{WentOn, FieldAt}

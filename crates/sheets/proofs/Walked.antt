@@ -2,7 +2,7 @@
 use Prim.Native.Nat.{ℕ, suc, _+_, _-_, _≤_, _<_}
 use mathlib.Core.Path.{_≡_, refl, sym, ap, _∙_}
 use mathlib.Core.List.{List, [], _∷_, _++_}
-use mathlib.Core.Option.{Option, none, some}
+use mathlib.Core.Option.{none, some}
 use native.Mathlib.Decide.{decLe}
 use native.Mathlib.Omega.{arith}
 use lib.ListN.{length, take, drop, set, replicate, length-append, length-drop, drop-of-length-le}
@@ -10,7 +10,7 @@ use lib.Seq.{take-all, take-append-le, take-at}
 use Rattle.rules.specs.declared.ObjectRow.{ObjectRow}
 use Rattle.rules.specs.declared.Refusal.the-variants.{LineForm}
 use Rattle.rules.specs.StoredTable.{noRow, padded, answer, refusedRead, tableVerdict, doorOf}
-use Rattle.rules.specs.Sheet.{Lines, allRows, readLine, lineOn, linesFrom, linesOf, linesAnswer}
+use Rattle.rules.specs.Sheet.{allRows, readLine, lineOn, linesFrom, linesOf, linesAnswer}
 use Rattle.rules.proofs.Checks.{count-many}
 use Rattle.rules.proofs.Lists.{fill-one}
 use Rattle.rules.proofs.SheetLines.{a-line, no-line}

@@ -12,7 +12,9 @@ use rules::Table;
 
 // The most bytes that a sheet may have, the largest id and the largest of the other numbers.
 const MOST_BYTES: usize = 4096;
+
 const MOST_ID: u32 = 65535;
+
 const MOST_NUMBER: u32 = 4294967295;
 
 // How far a number was read: its value so far, and the place behind its digits.

@@ -114,8 +114,5 @@ pub fn export(table: Table, buffer: &mut [u8]) -> Written
         };
     }
     put_lines(buffer, rows, count);
-    Written {
-        verdict,
-        size,
-    }
+    Written { verdict, size }
 }

@@ -1,13 +1,13 @@
 -- The checks on the copy answer as the rules say of the lent list. Assumes nothing.
-use Prim.Native.Nat.{ℕ, zero, suc, _-_, _≤_, _<_}
-use mathlib.Core.Path.{_≡_, refl, sym, ap, _∙_}
+use Prim.Native.Nat.{ℕ, zero, suc, _-_, _≤_}
+use mathlib.Core.Path.{_≡_, refl, ap}
 use mathlib.Core.List.{List, [], _∷_, _++_}
 use native.Mathlib.Decide.{decLe}
 use native.Mathlib.Omega.{arith}
-use lib.ListN.{length, take, replicate}
+use lib.ListN.{length, replicate}
 use lib.Seq.{take-at}
 use Rattle.rules.specs.declared.ObjectRow.{ObjectRow}
-use Rattle.rules.specs.StoredTable.{noRow, answer, tableOf, tableVerdict, doorOf}
+use Rattle.rules.specs.StoredTable.{noRow, doorOf}
 use Rattle.rules.proofs.Checks.{count-many}
 use Rattle.tables.specs.Copied.{fitted, copiedOf, checkedOf}
 

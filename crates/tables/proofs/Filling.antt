@@ -1,16 +1,13 @@
 -- Records one after the other: the arrays that they fill, and the checks on those arrays. Assumes nothing.
 use Prim.Native.Nat.{ℕ, zero, suc, _+_, _-_, _*_, _≤_, _<_}
-use mathlib.Core.Path.{_≡_, refl, sym, ap, _∙_}
+use mathlib.Core.Path.{_≡_, refl, sym}
 use mathlib.Core.List.{List, [], _∷_, _++_}
-use native.Mathlib.Omega.{arith}
 use native.Mathlib.Numerals.{add-one}
-use lib.ListN.{length, take, getD, set, replicate, length-append}
+use lib.ListN.{length, getD, set, replicate}
 use lib.Seq.{take-at}
 use Rattle.rules.specs.declared.ObjectRow.{ObjectRow}
-use Rattle.rules.specs.declared.Table.{Table}
 use Rattle.rules.specs.declared.Verdict.{Verdict}
 use Rattle.rules.specs.declared.Verdict.the-variants.{Accepted}
-use Rattle.rules.specs.Refusals.{firstRefusal}
 use Rattle.rules.specs.StoredTable.{noRow, padded, recordSize, recordsOf, rowOf, spareOf, countOf, recordsStart, storedRows, storedSpares, checksFrom, trailerVerdict, answer, readOf}
 use Rattle.rules.specs.Walk.{recordsVerdict}
 use Rattle.rules.proofs.Lists.{fill-one}

@@ -20,7 +20,9 @@ ghost use Rattle.tables.specs.Copied.{copiedOf, emptyOf, placed, checked
 
 // The trailer's bytes, a record's, and the most that a stored table may have.
 const TRAILER: usize = 8;
+
 const RECORD: usize = 12;
+
 const MOST_BYTES: usize = 4096;
 
 // 4D 4C, the low byte first.

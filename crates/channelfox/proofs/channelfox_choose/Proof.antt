@@ -1,6 +1,5 @@
 -- `channelfox::channelfox_choose` meets its contract. Assumes nothing.
 use borrow.Author.Needs.{needs}
-use mathlib.Core.Path.{_≡_}
 use Rattle.channelfox.proofs.channelfox_choose.Statement.{statement}
 use Rattle.channelfox.proofs.channelfox_choose.Tie as tie
 use Rattle.channelfox.proofs.channelfox_choose.Reads as reads

@@ -40,7 +40,6 @@ use denote.Triple.Table.{entered, cited}
 use denote.Triple.Walked.{says, Stays, stay-ref, stay-none, walkOf, AllGo, goes-none, goes-ref, Walks, ends-at, walked, walk-meets}
 use denote.Exit.{yes}
 use Rattle.channelfox.specs.Forms.{slotForm}
-use Rattle.channelfox.specs.declared.CVerdict.{CVerdict}
 use Rattle.channelfox.specs.declared.CRun.{CRun}
 use Rattle.channelfox.specs.declared.CRunAnswer.{CRunAnswer}
 use Rattle.channelfox.proofs.CVerdict as E

@@ -1,11 +1,12 @@
 -- `plan::print_plan` stays within the rows and ends. Assumes nothing.
-use Prim.Native.Nat.{_≤_, _-_}
+use Prim.Native.Nat.{_-_, _≤_}
 use borrow.Author.Needs.{needs}
 use Rattle.plan.proofs.print_plan.Statement.{statement}
 use Rattle.plan.proofs.print_plan.Tie as tie
 use Rattle.plan.proofs.print_plan.Reads as reads
 use Rattle.plan.proofs.print_plan.Lts as lts
 use Rattle.plan.proofs.print_row.Reads as print-row-reads
+use Rattle.printing.proofs.byte.Reads as byte-reads
 use Rattle.printing.proofs.number.Reads as number-reads
 use Rattle.printing.proofs.text.Reads as text-reads
 
@@ -24,11 +25,8 @@ text-requires c κs = search needs
 number-requires : tie.Need-number-requires Inv-loop μ-loop
 number-requires c κs = search needs
 
-slice-aggregate-text-2 : tie.Need-slice-aggregate-text-2 Inv-loop μ-loop
-slice-aggregate-text-2 c = search needs
-
-text-requires-2 : tie.Need-text-requires-2 Inv-loop μ-loop
-text-requires-2 c κs = search needs
+byte-requires : tie.Need-byte-requires Inv-loop μ-loop
+byte-requires c κs = search needs
 
 loop-holds : tie.Need-loop-holds Inv-loop μ-loop
 loop-holds c = search needs
@@ -63,8 +61,7 @@ print-plan-spec =
     slice-aggregate-text
     text-requires
     number-requires
-    slice-aggregate-text-2
-    text-requires-2
+    byte-requires
     loop-holds
     mul-row
     element-copy-out-row

@@ -1,10 +1,8 @@
 -- `tables::rows_from` meets its contract: after n turns the first n records are in. Assumes nothing.
-use Prim.Native.Nat.{ℕ, _+_, _-_, _*_, _≤_}
-use mathlib.Core.Path.{_≡_, refl}
-use mathlib.Core.List.{_++_}
+use Prim.Native.Nat.{_-_, _≤_}
+use mathlib.Core.Path.{_≡_}
 use native.Mathlib.Omega.{arith}
 use borrow.Author.Needs.{needs}
-use lib.ListN.{replicate}
 use Rattle.rules.specs.StoredTable.{noRow, padded, rowOf, recordsOf}
 use Rattle.tables.proofs.Filling.{fill-next}
 use Rattle.tables.proofs.rows_from.Statement.{statement}

@@ -1,18 +1,19 @@
 -- `cases::planning_cases::print_rows` stays within the rows and ends. Assumes nothing.
-use Prim.Native.Nat.{_≤_, _-_}
+use Prim.Native.Nat.{_-_, _≤_}
 use borrow.Author.Needs.{needs}
 use Rattle.cases.proofs.planning_cases.print_rows.Statement.{statement}
 use Rattle.cases.proofs.planning_cases.print_rows.Tie as tie
 use Rattle.cases.proofs.planning_cases.print_rows.Reads as reads
 use Rattle.cases.proofs.planning_cases.print_rows.Lts as lts
+use Rattle.cases.proofs.titles.say.Reads as say-reads
+use Rattle.printing.proofs.byte.Reads as byte-reads
 use Rattle.printing.proofs.number.Reads as number-reads
-use Rattle.printing.proofs.text.Reads as text-reads
 
 abbrev Inv-loop : tie.InvT-loop
-Inv-loop plan i₀ t5 t6 t7 t8 i = i ≤ 64
+Inv-loop plan i₀ i = i ≤ 64
 
 abbrev μ-loop : tie.MeasureT-loop
-μ-loop plan i₀ t5 t6 t7 t8 i = 64 - i
+μ-loop plan i₀ i = 64 - i
 
 loop-holds : tie.Need-loop-holds Inv-loop μ-loop
 loop-holds c = search needs
@@ -23,11 +24,8 @@ mul-one c = search needs
 element-copy-out-one : tie.Need-element-copy-out-one Inv-loop μ-loop
 element-copy-out-one c = search needs
 
-slice-aggregate-text : tie.Need-slice-aggregate-text Inv-loop μ-loop
-slice-aggregate-text c = search needs
-
-text-requires : tie.Need-text-requires Inv-loop μ-loop
-text-requires c κs = search needs
+byte-requires : tie.Need-byte-requires Inv-loop μ-loop
+byte-requires c κs = search needs
 
 cast-number : tie.Need-cast-number Inv-loop μ-loop
 cast-number c = search needs
@@ -35,11 +33,8 @@ cast-number c = search needs
 number-requires : tie.Need-number-requires Inv-loop μ-loop
 number-requires c κs = search needs
 
-slice-aggregate-text-2 : tie.Need-slice-aggregate-text-2 Inv-loop μ-loop
-slice-aggregate-text-2 c = search needs
-
-text-requires-2 : tie.Need-text-requires-2 Inv-loop μ-loop
-text-requires-2 c κs = search needs
+say-requires : tie.Need-say-requires Inv-loop μ-loop
+say-requires c κs = search needs
 
 cast-number-2 : tie.Need-cast-number-2 Inv-loop μ-loop
 cast-number-2 c = search needs
@@ -47,11 +42,8 @@ cast-number-2 c = search needs
 number-requires-2 : tie.Need-number-requires-2 Inv-loop μ-loop
 number-requires-2 c κs = search needs
 
-slice-aggregate-text-3 : tie.Need-slice-aggregate-text-3 Inv-loop μ-loop
-slice-aggregate-text-3 c = search needs
-
-text-requires-3 : tie.Need-text-requires-3 Inv-loop μ-loop
-text-requires-3 c κs = search needs
+byte-requires-2 : tie.Need-byte-requires-2 Inv-loop μ-loop
+byte-requires-2 c κs = search needs
 
 cast-number-3 : tie.Need-cast-number-3 Inv-loop μ-loop
 cast-number-3 c = search needs
@@ -59,11 +51,8 @@ cast-number-3 c = search needs
 number-requires-3 : tie.Need-number-requires-3 Inv-loop μ-loop
 number-requires-3 c κs = search needs
 
-slice-aggregate-text-4 : tie.Need-slice-aggregate-text-4 Inv-loop μ-loop
-slice-aggregate-text-4 c = search needs
-
-text-requires-4 : tie.Need-text-requires-4 Inv-loop μ-loop
-text-requires-4 c κs = search needs
+byte-requires-3 : tie.Need-byte-requires-3 Inv-loop μ-loop
+byte-requires-3 c κs = search needs
 
 add-i : tie.Need-add-i Inv-loop μ-loop
 add-i c = search needs
@@ -86,20 +75,16 @@ print-rows-spec =
     loop-holds
     mul-one
     element-copy-out-one
-    slice-aggregate-text
-    text-requires
+    byte-requires
     cast-number
     number-requires
-    slice-aggregate-text-2
-    text-requires-2
+    say-requires
     cast-number-2
     number-requires-2
-    slice-aggregate-text-3
-    text-requires-3
+    byte-requires-2
     cast-number-3
     number-requires-3
-    slice-aggregate-text-4
-    text-requires-4
+    byte-requires-3
     add-i
     loop-less
     loop-again

@@ -1,24 +1,22 @@
 -- `cases::run_cases::print_state` stays within the rows and ends. Assumes nothing.
-use Prim.Native.Nat.{_≤_, _-_}
+use Prim.Native.Nat.{_-_, _≤_}
 use borrow.Author.Needs.{needs}
 use Rattle.cases.proofs.run_cases.print_state.Statement.{statement}
 use Rattle.cases.proofs.run_cases.print_state.Tie as tie
 use Rattle.cases.proofs.run_cases.print_state.Reads as reads
 use Rattle.cases.proofs.run_cases.print_state.Lts as lts
+use Rattle.cases.proofs.titles.say.Reads as say-reads
+use Rattle.printing.proofs.byte.Reads as byte-reads
 use Rattle.printing.proofs.number.Reads as number-reads
-use Rattle.printing.proofs.text.Reads as text-reads
 
 abbrev Inv-loop : tie.InvT-loop
-Inv-loop run i₀ t6 t7 t8 i = i ≤ 3
+Inv-loop run i₀ i = i ≤ 3
 
 abbrev μ-loop : tie.MeasureT-loop
-μ-loop run i₀ t6 t7 t8 i = 3 - i
+μ-loop run i₀ i = 3 - i
 
-slice-aggregate-text : tie.Need-slice-aggregate-text Inv-loop μ-loop
-slice-aggregate-text c = search needs
-
-text-requires : tie.Need-text-requires Inv-loop μ-loop
-text-requires c κs = search needs
+say-requires : tie.Need-say-requires Inv-loop μ-loop
+say-requires c κs = search needs
 
 cast-number : tie.Need-cast-number Inv-loop μ-loop
 cast-number c = search needs
@@ -35,11 +33,8 @@ mul-one c = search needs
 element-copy-out-one : tie.Need-element-copy-out-one Inv-loop μ-loop
 element-copy-out-one c = search needs
 
-slice-aggregate-text-2 : tie.Need-slice-aggregate-text-2 Inv-loop μ-loop
-slice-aggregate-text-2 c = search needs
-
-text-requires-2 : tie.Need-text-requires-2 Inv-loop μ-loop
-text-requires-2 c κs = search needs
+say-requires-2 : tie.Need-say-requires-2 Inv-loop μ-loop
+say-requires-2 c κs = search needs
 
 cast-number-2 : tie.Need-cast-number-2 Inv-loop μ-loop
 cast-number-2 c = search needs
@@ -47,11 +42,8 @@ cast-number-2 c = search needs
 number-requires-2 : tie.Need-number-requires-2 Inv-loop μ-loop
 number-requires-2 c κs = search needs
 
-slice-aggregate-text-3 : tie.Need-slice-aggregate-text-3 Inv-loop μ-loop
-slice-aggregate-text-3 c = search needs
-
-text-requires-3 : tie.Need-text-requires-3 Inv-loop μ-loop
-text-requires-3 c κs = search needs
+say-requires-3 : tie.Need-say-requires-3 Inv-loop μ-loop
+say-requires-3 c κs = search needs
 
 cast-number-3 : tie.Need-cast-number-3 Inv-loop μ-loop
 cast-number-3 c = search needs
@@ -68,11 +60,8 @@ loop-less c = search needs
 loop-again : tie.Need-loop-again Inv-loop μ-loop
 loop-again c = search needs
 
-slice-aggregate-text-4 : tie.Need-slice-aggregate-text-4 Inv-loop μ-loop
-slice-aggregate-text-4 c = search needs
-
-text-requires-4 : tie.Need-text-requires-4 Inv-loop μ-loop
-text-requires-4 c κs = search needs
+byte-requires : tie.Need-byte-requires Inv-loop μ-loop
+byte-requires c κs = search needs
 
 returns : tie.Need-returns Inv-loop μ-loop
 returns c = search needs
@@ -83,24 +72,20 @@ print-state-spec =
     (tie.spec
     Inv-loop
     μ-loop
-    slice-aggregate-text
-    text-requires
+    say-requires
     cast-number
     number-requires
     loop-holds
     mul-one
     element-copy-out-one
-    slice-aggregate-text-2
-    text-requires-2
+    say-requires-2
     cast-number-2
     number-requires-2
-    slice-aggregate-text-3
-    text-requires-3
+    say-requires-3
     cast-number-3
     number-requires-3
     add-i
     loop-less
     loop-again
-    slice-aggregate-text-4
-    text-requires-4
+    byte-requires
     returns)

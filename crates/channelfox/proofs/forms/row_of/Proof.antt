@@ -1,7 +1,6 @@
 -- `channelfox::forms::row_of` meets its contract. Assumes nothing.
 use borrow.Author.Needs.{needs}
 use Rattle.channelfox.specs.Forms.{rowOf}
-use borrow.Author.Tests.{eq-eqb, ne-eqb}
 use Rattle.channelfox.proofs.forms.row_of.Statement.{statement}
 use Rattle.channelfox.proofs.forms.row_of.Tie as tie
 use Rattle.channelfox.proofs.forms.row_of.Reads as reads

@@ -1,5 +1,4 @@
 -- `channelfox::forms::stored_of` meets its contract. Assumes nothing.
-use borrow.Author.Needs.{needs}
 use borrow.Author.Tests.{eq-eqb, ne-eqb}
 use Rattle.channelfox.proofs.forms.stored_of.Statement.{statement}
 use Rattle.channelfox.proofs.forms.stored_of.Tie as tie

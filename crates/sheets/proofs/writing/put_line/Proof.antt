@@ -1,5 +1,5 @@
 -- `sheets::writing::put_line` meets its contract: three fields and the last byte, one behind the other. Assumes nothing.
-use Prim.Native.Nat.{_+_, _<_}
+use Prim.Native.Nat.{_<_}
 use mathlib.Core.Path.{refl, _∙_}
 use mathlib.Core.List.{[], _∷_, _++_}
 use native.Mathlib.Omega.{arith}

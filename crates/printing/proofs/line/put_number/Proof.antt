@@ -1,0 +1,38 @@
+-- `printing::line::put_number` meets its contract. Assumes nothing.
+use mathlib.Core.Path.{_∙_}
+use Rattle.printing.proofs.Places.{fewest-decimal}
+use borrow.Author.Needs.{needs}
+use Rattle.printing.proofs.line.put_number.Statement.{statement}
+use Rattle.printing.proofs.line.put_number.Tie as tie
+use Rattle.printing.proofs.line.put_number.Reads as reads
+use Rattle.printing.proofs.line.put_number.Lts as lts
+use Rattle.io.proofs.decimal.Reads as decimal-reads
+use Rattle.printing.proofs.line.put_text.Reads as put-text-reads
+
+decimal-requires : tie.Need-decimal-requires
+decimal-requires c κs = search needs
+
+array-share-prefix-digits : tie.Need-array-share-prefix-digits
+array-share-prefix-digits c = search needs
+
+slice-aggregate-put-text : tie.Need-slice-aggregate-put-text
+slice-aggregate-put-text c = search needs
+
+put-text-requires : tie.Need-put-text-requires
+put-text-requires c κs = search needs
+
+returns : tie.Need-returns
+returns c =
+    let d = c .before .before .before .decimal in
+    let e = d .ensures .1 .1 ∙ fewest-decimal (d .result) (c .before .before .before .before .before .args .n) (d .ensures .1 .0) in
+    rw e at (c .put-text .ensures)
+
+pub put-number-spec : {M : Type 1} → statement M
+put-number-spec =
+    tie.close
+    (tie.spec
+    decimal-requires
+    array-share-prefix-digits
+    slice-aggregate-put-text
+    put-text-requires
+    returns)

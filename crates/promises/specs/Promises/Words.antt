@@ -1,0 +1,31 @@
+-- The words of the page Promises.antt, each with the file that defines it: what a reader has to believe of them stands there.
+-- Assumes nothing.
+
+-- document 01: what goes in and what is answered
+pub use Rattle.rules.specs.declared.Table.{Table}
+pub use Rattle.rules.specs.declared.Run.{Run}
+pub use Rattle.rules.specs.declared.RunRow.{RunRow}
+pub use Rattle.rules.specs.declared.Stored.the-variants.{Held}
+pub use Rattle.rules.specs.declared.Verdict.the-variants.{Accepted}
+-- the number and the place that an answer tells
+pub use Rattle.rules.specs.Refusals.{Told, _atPlace_, told, readingTold}
+-- its checks, its plan, when a run state is acceptable, and the run
+pub use Rattle.rules.specs.StoredTable.{noRow, tableVerdict}
+pub use Rattle.rules.specs.Deadlines.{noPlanRow, planOf}
+pub use Rattle.rules.specs.RunState.{usedRows, acceptable}
+pub use Rattle.rules.specs.Run.{tick, startOf, begunOf, releasedOf, stepOne, stepTwo, stepThree, slotOf, stepped, steppedOf}
+pub use Rattle.rules.specs.Run.{readingOf, trueReading}
+-- the order, the deadline, what is planned, and the grounds of an answer
+pub use Rattle.promises.specs.OnlyOrder.{Ordered}
+pub use Rattle.promises.specs.Exactly.{FirstWithout}
+pub use Rattle.promises.specs.Plans.{PlannedRows}
+pub use Rattle.promises.specs.PlanExactly.{ordered, plansIn, placesIn, IdsDiffer, PlannedBehind}
+pub use Rattle.promises.specs.StartExactly.{GroundOf}
+pub use Rattle.promises.specs.ReadExactly.{NoneHas}
+-- the history, which is the run in true time, and what it looks like in 32 bits; the run after so many slots, and calls
+pub use Rattle.promises.specs.History.{Object, State, objectsIn, history, state, plansOf, InPhase, trueAge, Unstolen, Quiet}
+pub use Rattle.promises.specs.InHistory.{KeptInHistory}
+pub use Rattle.promises.specs.Sampled.{IsRelease}
+pub use Rattle.promises.specs.Encode.{runAfter, Fits, runRow, DueAt, objectOf, NothingLeft, encodeRun}
+pub use Rattle.promises.specs.Slots.{plans}
+pub use Rattle.promises.specs.Calls.{Call, callsOf, stolenBy, slotsIn}

@@ -4,13 +4,15 @@ use mathlib.Core.Path.{_≡_, refl, sym, _∙_}
 use mathlib.Core.Bool.{Bool, true, false, cond}
 use mathlib.Core.List.{List, [], _∷_}
 use native.Mathlib.Omega.{arith}
-use borrow.Author.Tests.{eq-eqb, ne-eqb, lt-ltb}
+use borrow.Author.Tests.{ne-eqb, lt-ltb}
 use lib.ListN.{length, getD, set}
 use Rattle.rules.specs.declared.RunRow.{RunRow}
 use Rattle.rules.specs.RunState.{ageOf}
 use Rattle.rules.specs.Run.{tick, releasedOf, servedOf, agedOf}
-use Rattle.running.specs.OnePass.{workedOf, freeOf, passRow, passRows, Unmoved}
-use Rattle.running.specs.Calm.{after, Quiet, Calm}
+use Rattle.stepping.specs.OneRow.{workedOf, passedOf, stillFree, Quiet}
+use Rattle.stepping.proofs.OneRow.{quiet-idle, quiet-taken}
+use Rattle.running.specs.OnePass.{passedRows}
+use Rattle.running.specs.Calm.{after, Calm}
 use Rattle.running.proofs.Turns.{rest}
 
 -- ── The clock ──
@@ -46,24 +48,11 @@ lessOf row =
     record { planned = row .planned; next = row .next; left = row .left - 1; sample = row .sample; lapsed = row .lapsed; stored = row .stored; skips = row .skips }
 
 module _ (clock : ℕ) (row : RunRow) (q : Quiet clock row) where
-  pub quiet-idle : (free : Bool) → row .left ≡ 0 → Unmoved clock free row
-  unfolding passRow releasedOf workedOf freeOf agedOf
-  quiet-idle free l = (simp (ne-eqb _ _ (q .due), eq-eqb _ _ l, q .rests), simp (ne-eqb _ _ (q .due), eq-eqb _ _ l))
-
-  quiet-waits : (row .left ≡ 0 → ⊥) → Unmoved clock false row
-  unfolding passRow releasedOf workedOf freeOf agedOf
-  quiet-waits l = (simp (ne-eqb _ _ (q .due), ne-eqb _ _ l, q .rests, q .hand l), simp (ne-eqb _ _ (q .due), ne-eqb _ _ l))
-
-  -- with or without work, where the core is taken
-  pub quiet-taken : (n : ℕ) → row .left ≡ n → Unmoved clock false row
-  quiet-taken zero e = quiet-idle false e
-  quiet-taken (suc n) e = quiet-waits (λ z. omega arith)
-
-  pub quiet-served : (row .left ≡ 0 → ⊥) → (passRow clock true row ≡ agedOf (tick clock) (servedOf row)) × (freeOf true (releasedOf clock row) ≡ false)
-  unfolding passRow releasedOf workedOf freeOf
+  pub quiet-served : (row .left ≡ 0 → ⊥) → (passedOf clock true row ≡ agedOf (tick clock) (servedOf row)) × (stillFree true (releasedOf clock row) ≡ false)
+  unfolding passedOf releasedOf workedOf stillFree
   quiet-served l = (simp (ne-eqb _ _ (q .due), ne-eqb _ _ l), simp (ne-eqb _ _ (q .due), ne-eqb _ _ l))
 
-  pub quiet-less : 1 < row .left → passRow clock true row ≡ lessOf row
+  pub quiet-less : 1 < row .left → passedOf clock true row ≡ lessOf row
   unfolding servedOf agedOf
   quiet-less h =
       let n : row .left - 1 ≡ 0 → ⊥ = λ z. omega arith in
@@ -86,7 +75,7 @@ AllIdle n l = (i : ℕ) (d : RunRow) → i < n → getD l i d .left ≡ 0
 
 -- the slot is stolen
 pub slot-taken : (clock n : ℕ) (l : List RunRow) → AllQuiet clock n l → rest clock false n l ≡ l
-unfolding passRows
+unfolding passedRows
 slot-taken clock zero l q = refl
 slot-taken clock (suc n) [] q = refl
 slot-taken clock (suc n) (r ∷ rs) q =
@@ -95,7 +84,7 @@ slot-taken clock (suc n) (r ∷ rs) q =
 
 -- no row has work
 pub slot-unused : (clock n : ℕ) (l : List RunRow) → AllQuiet clock n l → AllIdle n l → rest clock true n l ≡ l
-unfolding passRows
+unfolding passedRows
 slot-unused clock zero l q w = refl
 slot-unused clock (suc n) [] q w = refl
 slot-unused clock (suc n) (r ∷ rs) q w =
@@ -103,8 +92,8 @@ slot-unused clock (suc n) (r ∷ rs) q w =
     rw (h .0, h .1, slot-unused clock n rs (λ i d k. q (suc i) d (omega arith)) (λ i d k. w (suc i) d (omega arith)))
 
 -- the row f is the first with work
-pub slot-used : (clock n f : ℕ) (l : List RunRow) (d : RunRow) → f < n → n ≤ length l → AllQuiet clock n l → AllIdle f l → (getD l f d .left ≡ 0 → ⊥) → rest clock true n l ≡ set l f (passRow clock true (getD l f d))
-unfolding passRows
+pub slot-used : (clock n f : ℕ) (l : List RunRow) (d : RunRow) → f < n → n ≤ length l → AllQuiet clock n l → AllIdle f l → (getD l f d .left ≡ 0 → ⊥) → rest clock true n l ≡ set l f (passedOf clock true (getD l f d))
+unfolding passedRows
 slot-used clock zero f l d h k q w b = absurd (omega arith)
 slot-used clock (suc n) f [] d h k q w b = absurd (omega arith)
 slot-used clock (suc n) zero (r ∷ rs) d h k q w b =

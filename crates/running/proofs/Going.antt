@@ -13,7 +13,7 @@ use lib.Seq.{drop-cons, getD-set-same, getD-set-other}
 use Rattle.rules.specs.declared.RunRow.{RunRow}
 use Rattle.rules.specs.declared.Run.{Run}
 use Rattle.rules.specs.Run.{tick, releasedOf, servedOf, agedOf, slotOf, slotsOf, isStolen}
-use Rattle.running.specs.OnePass.{freeOf, passRow, Unmoved}
+use Rattle.stepping.specs.OneRow.{passedOf, stillFree, unmoved}
 use Rattle.running.specs.Calm.{Calm}
 use Rattle.running.proofs.ThreeSteps.{one-pass}
 use Rattle.running.proofs.Turns.{rest, PassedTo, passed-none, passed-unmoved, passed-stored, passed-all}
@@ -71,21 +71,21 @@ pub record Passing (clock count : ℕ) (free₀ : Bool) (rows₀ rows : List Run
 pub passing-none : {clock count : ℕ} {free : Bool} {rows : List RunRow} {calm : ℕ} → count ≤ 64 → length rows ≡ 64 → Passing clock count free rows rows calm free 0
 passing-none f l = record { passed = passed-none f l; calm-rows = λ j d z. absurd (omega arith) }
 
-module _ {clock count : ℕ} {free₀ free : Bool} {rows₀ rows : List RunRow} {calm i : ℕ} (p : Passing clock count free₀ rows₀ rows calm free i) (d : RunRow) (h : i < count) (m n : ℕ) where
+module _ {clock count : ℕ} {free₀ free : Bool} {rows₀ rows : List RunRow} {calm i : ℕ} (p : Passing clock count free₀ rows₀ rows calm free i) (d : RunRow) (h : i < count) (n : ℕ) where
   here : i < length rows
   here = omega (arith, p .passed .long, p .passed .few)
 
-  pub passing-unmoved : Unmoved clock free (getD rows i d) → Calm (tick clock) m (getD rows i d) → n ≤ calm → n ≤ m → Passing clock count free₀ rows₀ rows n free (i + 1)
-  passing-unmoved e q a b =
+  pub passing-unmoved : unmoved clock free (getD rows i d) ≡ true → n ≤ calm → Calm (tick clock) n (getD rows i d) → Passing clock count free₀ rows₀ rows n free (i + 1)
+  passing-unmoved e a q =
       record { passed = passed-unmoved (p .passed) d h e; calm-rows = λ j d′ k. next j d′ k (ℕ-discrete j i) }
     where
       next : (j : ℕ) (d′ : RunRow) → j < i + 1 → Dec (j ≡ i) → Calm (tick clock) n (getD rows j d′)
-      next j d′ k (yes y) = rw (y, getD-any rows i d′ d here) (calm-fewer _ _ _ _ b q)
+      next j d′ k (yes y) = rw (y, getD-any rows i d′ d here) q
       next j d′ k (no y) = calm-fewer _ _ _ _ a (p .calm-rows j d′ (omega (arith, y)))
 
-  pub passing-stored : (v : RunRow) → v ≡ passRow clock free (getD rows i d) → Calm (tick clock) m v → n ≤ calm → n ≤ m → Passing clock count free₀ rows₀ (set rows i v) n (freeOf free (releasedOf clock (getD rows i d))) (i + 1)
-  passing-stored v e q a b =
-      record { passed = passed-stored (p .passed) d h v e; calm-rows = λ j d′ k. all-stored (Calm (tick clock) n) rows i j (i + 1) v d′ here (λ z y. calm-fewer _ _ _ _ a (p .calm-rows j d′ (omega (arith, z)))) (calm-fewer _ _ _ _ b q) k }
+  pub passing-stored : (v : RunRow) → v ≡ passedOf clock free (getD rows i d) → n ≤ calm → Calm (tick clock) n v → Passing clock count free₀ rows₀ (set rows i v) n (stillFree free (releasedOf clock (getD rows i d))) (i + 1)
+  passing-stored v e a q =
+      record { passed = passed-stored (p .passed) d h v e; calm-rows = λ j d′ k. all-stored (Calm (tick clock) n) rows i j (i + 1) v d′ here (λ z y. calm-fewer _ _ _ _ a (p .calm-rows j d′ (omega (arith, z)))) q k }
 
 -- ── Between slots ──
 
@@ -129,7 +129,7 @@ module _ {start : Run} {list : List ℕ} {count : ℕ} {rows : List RunRow} {clo
       going-unused z = onto rows _ _ (g .long) (rw (not-false (eqb (getD list k 0) 0) s) (slot-unused clock count rows quiets (λ i d y. w i d (omega arith)))) calm-on w
 
       -- the row f gets the slot and becomes v
-      going-used : (v d : RunRow) (m : ℕ) → f < count → (getD rows f d .left ≡ 0 → ⊥) → v ≡ passRow clock true (getD rows f d) → m ≤ calm - 1 → Calm (tick clock) m v → Going start list count (set rows f v) (tick clock) m f (k + 1)
+      going-used : (v d : RunRow) (m : ℕ) → f < count → (getD rows f d .left ≡ 0 → ⊥) → v ≡ passedOf clock true (getD rows f d) → m ≤ calm - 1 → Calm (tick clock) m v → Going start list count (set rows f v) (tick clock) m f (k + 1)
       going-used v d m z b e a q =
           let n : f < length rows = omega (arith, g .long, g .few) in
           onto (set rows f v) m f (length-set rows f v ∙ g .long) (rw (not-false (eqb (getD list k 0) 0) s, e) (slot-used clock count f rows d z (omega (arith, g .long, g .few)) quiets w b))

@@ -1,8 +1,6 @@
 pub mod ThreeSteps
-pub mod Lists
 pub mod Turns
-pub mod Scan
-pub mod Checked
+pub mod Stepped
 pub mod Found
 pub mod CalmSlots
 pub mod Going

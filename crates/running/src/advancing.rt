@@ -2,20 +2,12 @@
 ghost use mathlib.Core.Path.{_≡_};
 ghost use Prim.Native.Nat.{_≤_};
 ghost use Rattle.rules.specs.Run.{slotsOf, advancedOf};
-use super::acceptance::is_acceptable;
 use super::calm::calm_row;
-use super::calm::lower;
-use super::rows::aged;
-use super::rows::quiet;
-use super::rows::released;
-use super::rows::served;
-use super::rows::still_free;
-use super::rows::worked;
-use rules::Refusal;
+use super::slots::not_run_state;
 use rules::Run;
-use rules::RunRow;
 use rules::Stepped;
 use rules::Verdict;
+use stepping::LAST;
 
 // The slots one after the other, without a look at every row in each. `calm` says for how many slots to come nothing is released
 // and nothing lapses, and no row before `first` has work: in such a slot at most one row changes. One body over the local rows,
@@ -34,20 +26,20 @@ fn advance_rows(run: Run, stolen: &[u8]) -> Run
         let after = std::num::wrapping_add_u32(clock, 1);
         let mut free = stolen[k] == 0;
         if calm == 0 {
-            calm = 4294967295;
+            calm = LAST;
             first = 0;
             'pass: for i in 0..count {
                 let row = rows[i];
-                if quiet(clock, free, row) {
-                    calm = lower(calm, calm_row(after, row));
+                if stepping::unmoved(clock, free, row) {
+                    calm = calm_row(calm, after, row);
                     continue;
                 }
-                let r = released(clock, row);
-                let s = worked(free, r);
-                free = still_free(free, r);
-                let t = aged(after, s);
+                let r = stepping::released(clock, row);
+                let s = stepping::worked(free, r);
+                free = stepping::still_free(free, r);
+                let t = stepping::aged(after, s);
                 rows[i] = t;
-                calm = lower(calm, calm_row(after, t));
+                calm = calm_row(calm, after, t);
             }
             clock = after;
             k = k + 1;
@@ -73,10 +65,9 @@ fn advance_rows(run: Run, stolen: &[u8]) -> Run
             rows[first].left = row.left - 1;
             continue 'slots;
         }
-        let s = served(row);
-        let t = aged(after, s);
+        let t = stepping::aged(after, stepping::served(row));
         rows[first] = t;
-        calm = lower(calm, calm_row(after, t));
+        calm = calm_row(calm, after, t);
     }
     Run { clock, count, rows }
 }
@@ -86,11 +77,8 @@ fn advance_rows(run: Run, stolen: &[u8]) -> Run
 pub fn advance(run: Run, stolen: &[u8]) -> Stepped
     ensures { λ r. ⌜ r ≡ advancedOf run (now (stolen .entry)) ⌝ }
 {
-    if !is_acceptable(run) {
-        return Stepped {
-            verdict: Verdict::Refused(Refusal::NotRunState, 0),
-            run,
-        };
+    if !stepping::is_acceptable(run) {
+        return not_run_state(run);
     }
     let done = advance_rows(run, stolen);
     Stepped {

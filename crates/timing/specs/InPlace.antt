@@ -3,7 +3,6 @@ use Prim.Native.Nat.{ℕ, _%_}
 use mathlib.Core.List.{List, [], _∷_}
 use lib.ListN.{getD}
 use Rattle.rules.specs.declared.Run.{Run}
-use Rattle.rules.specs.declared.RunRow.{RunRow}
 use Rattle.rules.specs.Run.{noRunRow, isStolen, steppedOf}
 use Rattle.timing.specs.declared.Seen.{Seen}
 

@@ -1,4 +1,4 @@
-//! The reseller's sheet: lines of id, cost and validity, parted by commas and each ended by CR LF. Refusal 17.
+//! The reseller's sheet: lines of id, cost and validity, separated by commas and each ended by CR LF. Refusal 17.
 
 use std::str::{self, FromStr};
 

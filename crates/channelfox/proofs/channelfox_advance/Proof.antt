@@ -5,13 +5,6 @@ use borrow.Author.Tests.{not-true, not-false}
 use Rattle.channelfox.specs.Forms.{advanceForm}
 use Rattle.channelfox.proofs.channelfox_advance.Statement.{statement}
 use Rattle.channelfox.proofs.channelfox_advance.Tie as tie
-use Rattle.channelfox.proofs.channelfox_advance.Reads as reads
-use Rattle.channelfox.proofs.channelfox_advance.Lts as lts
-use Rattle.channelfox.proofs.forms.all_forms.Reads as all-forms-reads
-use Rattle.channelfox.proofs.forms.run_of.Reads as run-of-reads
-use Rattle.channelfox.proofs.no_form.Reads as no-form-reads
-use Rattle.channelfox.proofs.stepped_form.Reads as stepped-form-reads
-use Rattle.running.proofs.advance.Reads as advance-reads
 
 all-forms-requires : tie.Need-all-forms-requires
 all-forms-requires c κs = search needs

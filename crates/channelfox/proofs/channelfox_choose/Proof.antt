@@ -2,9 +2,6 @@
 use borrow.Author.Needs.{needs}
 use Rattle.channelfox.proofs.channelfox_choose.Statement.{statement}
 use Rattle.channelfox.proofs.channelfox_choose.Tie as tie
-use Rattle.channelfox.proofs.channelfox_choose.Reads as reads
-use Rattle.channelfox.proofs.channelfox_choose.Lts as lts
-use Rattle.tables.proofs.chosen_part.Reads as chosen-part-reads
 
 chosen-part-requires : tie.Need-chosen-part-requires
 chosen-part-requires c κs = search needs

@@ -4,10 +4,6 @@ use Rattle.channelfox.specs.Forms.{writtenForm}
 use borrow.Author.Needs.{needs}
 use Rattle.channelfox.proofs.channelfox_export.Statement.{statement}
 use Rattle.channelfox.proofs.channelfox_export.Tie as tie
-use Rattle.channelfox.proofs.channelfox_export.Reads as reads
-use Rattle.channelfox.proofs.channelfox_export.Lts as lts
-use Rattle.channelfox.proofs.written_form.Reads as written-form-reads
-use Rattle.sheets.proofs.export.Reads as export-reads
 
 export-requires : tie.Need-export-requires
 export-requires c κs = search needs

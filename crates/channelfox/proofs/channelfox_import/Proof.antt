@@ -3,10 +3,6 @@ use mathlib.Core.Path.{_∙_}
 use borrow.Author.Needs.{needs}
 use Rattle.channelfox.proofs.channelfox_import.Statement.{statement}
 use Rattle.channelfox.proofs.channelfox_import.Tie as tie
-use Rattle.channelfox.proofs.channelfox_import.Reads as reads
-use Rattle.channelfox.proofs.channelfox_import.Lts as lts
-use Rattle.channelfox.proofs.read_form.Reads as read-form-reads
-use Rattle.sheets.proofs.import.Reads as import-reads
 
 import-requires : tie.Need-import-requires
 import-requires c κs = search needs

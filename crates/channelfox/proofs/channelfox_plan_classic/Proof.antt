@@ -3,10 +3,6 @@ use mathlib.Core.Path.{_∙_}
 use borrow.Author.Needs.{needs}
 use Rattle.channelfox.proofs.channelfox_plan_classic.Statement.{statement}
 use Rattle.channelfox.proofs.channelfox_plan_classic.Tie as tie
-use Rattle.channelfox.proofs.channelfox_plan_classic.Reads as reads
-use Rattle.channelfox.proofs.channelfox_plan_classic.Lts as lts
-use Rattle.channelfox.proofs.plan_form.Reads as plan-form-reads
-use Rattle.planning.proofs.plan_classic.Reads as plan-classic-reads
 
 plan-classic-requires : tie.Need-plan-classic-requires
 plan-classic-requires c κs = search needs

@@ -3,12 +3,6 @@ use borrow.Author.Needs.{needs}
 use mathlib.Core.Path.{_∙_}
 use Rattle.channelfox.proofs.channelfox_plan_stored.Statement.{statement}
 use Rattle.channelfox.proofs.channelfox_plan_stored.Tie as tie
-use Rattle.channelfox.proofs.channelfox_plan_stored.Reads as reads
-use Rattle.channelfox.proofs.channelfox_plan_stored.Lts as lts
-use Rattle.channelfox.proofs.plan_form.Reads as plan-form-reads
-use Rattle.planning.proofs.plan_table.Reads as plan-table-reads
-use Rattle.rules.proofs.empty_plan.Reads as empty-plan-reads
-use Rattle.tables.proofs.read.Reads as read-reads
 
 read-requires : tie.Need-read-requires
 read-requires c κs = search needs

@@ -3,10 +3,6 @@ use mathlib.Core.Path.{_∙_}
 use borrow.Author.Needs.{needs}
 use Rattle.channelfox.proofs.channelfox_plan_table.Statement.{statement}
 use Rattle.channelfox.proofs.channelfox_plan_table.Tie as tie
-use Rattle.channelfox.proofs.channelfox_plan_table.Reads as reads
-use Rattle.channelfox.proofs.channelfox_plan_table.Lts as lts
-use Rattle.channelfox.proofs.plan_form.Reads as plan-form-reads
-use Rattle.planning.proofs.plan_table.Reads as plan-table-reads
 
 plan-table-requires : tie.Need-plan-table-requires
 plan-table-requires c κs = search needs

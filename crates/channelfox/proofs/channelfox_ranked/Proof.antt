@@ -3,10 +3,6 @@ use mathlib.Core.Path.{_∙_}
 use borrow.Author.Needs.{needs}
 use Rattle.channelfox.proofs.channelfox_ranked.Statement.{statement}
 use Rattle.channelfox.proofs.channelfox_ranked.Tie as tie
-use Rattle.channelfox.proofs.channelfox_ranked.Reads as reads
-use Rattle.channelfox.proofs.channelfox_ranked.Lts as lts
-use Rattle.channelfox.proofs.read_form.Reads as read-form-reads
-use Rattle.planning.proofs.ranked.Reads as ranked-reads
 
 ranked-requires : tie.Need-ranked-requires
 ranked-requires c κs = search needs

@@ -3,10 +3,6 @@ use mathlib.Core.Path.{_∙_}
 use borrow.Author.Needs.{needs}
 use Rattle.channelfox.proofs.channelfox_read.Statement.{statement}
 use Rattle.channelfox.proofs.channelfox_read.Tie as tie
-use Rattle.channelfox.proofs.channelfox_read.Reads as reads
-use Rattle.channelfox.proofs.channelfox_read.Lts as lts
-use Rattle.channelfox.proofs.read_form.Reads as read-form-reads
-use Rattle.tables.proofs.read.Reads as read-reads
 
 read-requires : tie.Need-read-requires
 read-requires c κs = search needs

@@ -5,12 +5,6 @@ use Rattle.channelfox.specs.Forms.{readValueForm}
 use borrow.Author.Needs.{needs}
 use Rattle.channelfox.proofs.channelfox_read_value.Statement.{statement}
 use Rattle.channelfox.proofs.channelfox_read_value.Tie as tie
-use Rattle.channelfox.proofs.channelfox_read_value.Reads as reads
-use Rattle.channelfox.proofs.channelfox_read_value.Lts as lts
-use Rattle.channelfox.proofs.forms.all_forms.Reads as all-forms-reads
-use Rattle.channelfox.proofs.forms.run_of.Reads as run-of-reads
-use Rattle.channelfox.proofs.reading_form.Reads as reading-form-reads
-use Rattle.running.proofs.read_value.Reads as read-value-reads
 
 all-forms-requires : tie.Need-all-forms-requires
 all-forms-requires c κs = search needs

@@ -3,10 +3,6 @@ use borrow.Author.Needs.{needs}
 use mathlib.Core.Path.{_∙_}
 use Rattle.channelfox.proofs.channelfox_start.Statement.{statement}
 use Rattle.channelfox.proofs.channelfox_start.Tie as tie
-use Rattle.channelfox.proofs.channelfox_start.Reads as reads
-use Rattle.channelfox.proofs.channelfox_start.Lts as lts
-use Rattle.channelfox.proofs.started_form.Reads as started-form-reads
-use Rattle.running.proofs.start.Reads as start-reads
 
 start-requires : tie.Need-start-requires
 start-requires c κs = search needs

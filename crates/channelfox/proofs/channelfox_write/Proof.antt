@@ -4,10 +4,6 @@ use Rattle.channelfox.specs.Forms.{writtenForm}
 use borrow.Author.Needs.{needs}
 use Rattle.channelfox.proofs.channelfox_write.Statement.{statement}
 use Rattle.channelfox.proofs.channelfox_write.Tie as tie
-use Rattle.channelfox.proofs.channelfox_write.Reads as reads
-use Rattle.channelfox.proofs.channelfox_write.Lts as lts
-use Rattle.channelfox.proofs.written_form.Reads as written-form-reads
-use Rattle.tables.proofs.write.Reads as write-reads
 
 write-requires : tie.Need-write-requires
 write-requires c κs = search needs

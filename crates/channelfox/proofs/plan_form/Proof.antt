@@ -2,9 +2,6 @@
 use borrow.Author.Needs.{needs}
 use Rattle.channelfox.proofs.plan_form.Statement.{statement}
 use Rattle.channelfox.proofs.plan_form.Tie as tie
-use Rattle.channelfox.proofs.plan_form.Reads as reads
-use Rattle.channelfox.proofs.plan_form.Lts as lts
-use Rattle.channelfox.proofs.forms.verdict_form.Reads as verdict-form-reads
 
 verdict-form-requires : tie.Need-verdict-form-requires
 verdict-form-requires c κs = search needs

@@ -3,10 +3,6 @@ use mathlib.Core.Path.{_∙_}
 use borrow.Author.Needs.{needs}
 use Rattle.channelfox.proofs.reading_form.Statement.{statement}
 use Rattle.channelfox.proofs.reading_form.Tie as tie
-use Rattle.channelfox.proofs.reading_form.Reads as reads
-use Rattle.channelfox.proofs.reading_form.Lts as lts
-use Rattle.channelfox.proofs.forms.verdict_form.Reads as verdict-form-reads
-use Rattle.channelfox.proofs.value_form.Reads as value-form-reads
 
 enum-told : tie.Need-enum-told
 enum-told c = search needs

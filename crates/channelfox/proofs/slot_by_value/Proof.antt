@@ -5,13 +5,6 @@ use borrow.Author.Tests.{not-true, not-false}
 use Rattle.channelfox.specs.Forms.{slotForm}
 use Rattle.channelfox.proofs.slot_by_value.Statement.{statement}
 use Rattle.channelfox.proofs.slot_by_value.Tie as tie
-use Rattle.channelfox.proofs.slot_by_value.Reads as reads
-use Rattle.channelfox.proofs.slot_by_value.Lts as lts
-use Rattle.channelfox.proofs.forms.all_forms.Reads as all-forms-reads
-use Rattle.channelfox.proofs.forms.run_of.Reads as run-of-reads
-use Rattle.channelfox.proofs.no_form.Reads as no-form-reads
-use Rattle.channelfox.proofs.stepped_form.Reads as stepped-form-reads
-use Rattle.running.proofs.slot.Reads as slot-reads
 
 all-forms-requires : tie.Need-all-forms-requires
 all-forms-requires c κs = search needs

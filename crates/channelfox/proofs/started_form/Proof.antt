@@ -2,10 +2,6 @@
 use borrow.Author.Needs.{needs}
 use Rattle.channelfox.proofs.started_form.Statement.{statement}
 use Rattle.channelfox.proofs.started_form.Tie as tie
-use Rattle.channelfox.proofs.started_form.Reads as reads
-use Rattle.channelfox.proofs.started_form.Lts as lts
-use Rattle.channelfox.proofs.forms.run_form.Reads as run-form-reads
-use Rattle.channelfox.proofs.forms.verdict_form.Reads as verdict-form-reads
 
 verdict-form-requires : tie.Need-verdict-form-requires
 verdict-form-requires c κs = search needs

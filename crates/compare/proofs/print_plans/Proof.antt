@@ -3,11 +3,6 @@ use Prim.Native.Nat.{_≤_, _-_}
 use borrow.Author.Needs.{needs}
 use Rattle.compare.proofs.print_plans.Statement.{statement}
 use Rattle.compare.proofs.print_plans.Tie as tie
-use Rattle.compare.proofs.print_plans.Reads as reads
-use Rattle.compare.proofs.print_plans.Lts as lts
-use Rattle.compare.proofs.print_row.Reads as print-row-reads
-use Rattle.compare.proofs.print_totals.Reads as print-totals-reads
-use Rattle.printing.proofs.text.Reads as text-reads
 
 abbrev Inv-loop : tie.InvT-loop
 Inv-loop fits planned ranked classic ours i₀ i = i ≤ 64

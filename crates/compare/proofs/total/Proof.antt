@@ -3,10 +3,6 @@ use Prim.Native.Nat.{_≤_, _-_}
 use borrow.Author.Needs.{needs}
 use Rattle.compare.proofs.total.Statement.{statement}
 use Rattle.compare.proofs.total.Tie as tie
-use Rattle.compare.proofs.total.Reads as reads
-use Rattle.compare.proofs.total.Lts as lts
-use Rattle.compare.proofs.share.Reads as share-reads
-use Rattle.std.proofs.num.wrapping_add_u64.Reads as wrapping-add-u64-reads
 
 abbrev Inv-loop : tie.InvT-loop
 Inv-loop plan sum₀ i₀ sum i = i ≤ 64

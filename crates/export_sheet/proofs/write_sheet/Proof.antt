@@ -8,10 +8,6 @@ use Rattle.export_sheet.proofs.Room.{exported-within}
 use borrow.Author.Needs.{needs}
 use Rattle.export_sheet.proofs.write_sheet.Statement.{statement}
 use Rattle.export_sheet.proofs.write_sheet.Tie as tie
-use Rattle.export_sheet.proofs.write_sheet.Reads as reads
-use Rattle.export_sheet.proofs.write_sheet.Lts as lts
-use Rattle.printing.proofs.text.Reads as text-reads
-use Rattle.sheets.proofs.export.Reads as export-reads
 
 slice-aggregate-export : tie.Need-slice-aggregate-export
 slice-aggregate-export c = search needs

@@ -8,10 +8,6 @@ use Rattle.import_sheet.proofs.Room.{written-at-most}
 use borrow.Author.Needs.{needs}
 use Rattle.import_sheet.proofs.write_table.Statement.{statement}
 use Rattle.import_sheet.proofs.write_table.Tie as tie
-use Rattle.import_sheet.proofs.write_table.Reads as reads
-use Rattle.import_sheet.proofs.write_table.Lts as lts
-use Rattle.printing.proofs.text.Reads as text-reads
-use Rattle.tables.proofs.write.Reads as write-reads
 
 slice-aggregate-write : tie.Need-slice-aggregate-write
 slice-aggregate-write c = search needs

@@ -3,12 +3,6 @@ use Prim.Native.Nat.{_-_, _≤_}
 use borrow.Author.Needs.{needs}
 use Rattle.plan.proofs.print_plan.Statement.{statement}
 use Rattle.plan.proofs.print_plan.Tie as tie
-use Rattle.plan.proofs.print_plan.Reads as reads
-use Rattle.plan.proofs.print_plan.Lts as lts
-use Rattle.plan.proofs.print_row.Reads as print-row-reads
-use Rattle.printing.proofs.byte.Reads as byte-reads
-use Rattle.printing.proofs.number.Reads as number-reads
-use Rattle.printing.proofs.text.Reads as text-reads
 
 abbrev Inv-loop : tie.InvT-loop
 Inv-loop plan i₀ i = i ≤ 64

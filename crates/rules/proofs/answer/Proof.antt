@@ -2,9 +2,6 @@
 use borrow.Author.Needs.{needs}
 use Rattle.rules.proofs.answer.Statement.{statement}
 use Rattle.rules.proofs.answer.Tie as tie
-use Rattle.rules.proofs.answer.Reads as reads
-use Rattle.rules.proofs.answer.Lts as lts
-use Rattle.rules.proofs.refused_read.Reads as refused-read-reads
 
 enum-told : tie.Need-enum-told
 enum-told c = search needs

@@ -3,10 +3,6 @@ use mathlib.Core.Path.{_∙_}
 use borrow.Author.Needs.{needs}
 use Rattle.rules.proofs.check_answer.Statement.{statement}
 use Rattle.rules.proofs.check_answer.Tie as tie
-use Rattle.rules.proofs.check_answer.Reads as reads
-use Rattle.rules.proofs.check_answer.Lts as lts
-use Rattle.rules.proofs.answer.Reads as answer-reads
-use Rattle.rules.proofs.check_table.Reads as check-table-reads
 
 check-table-requires : tie.Need-check-table-requires
 check-table-requires c κs = search needs

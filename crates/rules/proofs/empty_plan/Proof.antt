@@ -2,9 +2,6 @@
 use borrow.Author.Needs.{needs}
 use Rattle.rules.proofs.empty_plan.Statement.{statement}
 use Rattle.rules.proofs.empty_plan.Tie as tie
-use Rattle.rules.proofs.empty_plan.Reads as reads
-use Rattle.rules.proofs.empty_plan.Lts as lts
-use Rattle.rules.proofs.empty_plan_row.Reads as empty-plan-row-reads
 
 empty-plan-row-requires : tie.Need-empty-plan-row-requires
 empty-plan-row-requires c κs = search needs

@@ -2,9 +2,6 @@
 use borrow.Author.Needs.{needs}
 use Rattle.rules.proofs.empty_table.Statement.{statement}
 use Rattle.rules.proofs.empty_table.Tie as tie
-use Rattle.rules.proofs.empty_table.Reads as reads
-use Rattle.rules.proofs.empty_table.Lts as lts
-use Rattle.rules.proofs.empty_row.Reads as empty-row-reads
 
 empty-row-requires : tie.Need-empty-row-requires
 empty-row-requires c κs = search needs

@@ -2,9 +2,6 @@
 use borrow.Author.Needs.{needs}
 use Rattle.rules.proofs.refused_read.Statement.{statement}
 use Rattle.rules.proofs.refused_read.Tie as tie
-use Rattle.rules.proofs.refused_read.Reads as reads
-use Rattle.rules.proofs.refused_read.Lts as lts
-use Rattle.rules.proofs.empty_table.Reads as empty-table-reads
 
 empty-table-requires : tie.Need-empty-table-requires
 empty-table-requires c κs = search needs

@@ -5,10 +5,6 @@ use Rattle.rules.proofs.Trailer.{too-short, too-long, wrong-mark, no-record, to
 use borrow.Author.Needs.{needs}
 use Rattle.tables.proofs.check_trailer.Statement.{statement}
 use Rattle.tables.proofs.check_trailer.Tie as tie
-use Rattle.tables.proofs.check_trailer.Reads as reads
-use Rattle.tables.proofs.check_trailer.Lts as lts
-use Rattle.tables.proofs.read16.Reads as read16-reads
-use Rattle.tables.proofs.read32.Reads as read32-reads
 
 returns : tie.Need-returns
 returns c = sym (too-short (c .before .before .args .bytes .now) (c .if1 .taken))

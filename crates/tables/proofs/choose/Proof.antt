@@ -6,9 +6,6 @@ use Rattle.rules.proofs.Trailer.{chosen-within}
 use borrow.Author.Needs.{needs}
 use Rattle.tables.proofs.choose.Statement.{statement}
 use Rattle.tables.proofs.choose.Tie as tie
-use Rattle.tables.proofs.choose.Reads as reads
-use Rattle.tables.proofs.choose.Lts as lts
-use Rattle.tables.proofs.chosen_part.Reads as chosen-part-reads
 
 chosen-part-requires : tie.Need-chosen-part-requires
 chosen-part-requires c κs = search needs

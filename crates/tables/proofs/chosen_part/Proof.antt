@@ -5,9 +5,6 @@ use borrow.Author.Needs.{needs}
 use Rattle.tables.proofs.chosen_part.Statement.{statement}
 use Rattle.tables.proofs.chosen_part.Tie as tie
 use Rattle.tables.proofs.chosen_part.Reads as reads
-use Rattle.tables.proofs.chosen_part.Lts as lts
-use Rattle.tables.proofs.reads.Reads as reads-reads
-use Rattle.tables.proofs.records_part.Reads as records-part-reads
 
 reads-requires : tie.Need-reads-requires
 reads-requires c κs = search needs

@@ -2,9 +2,6 @@
 use borrow.Author.Needs.{needs}
 use Rattle.tables.proofs.empty_of.Statement.{statement}
 use Rattle.tables.proofs.empty_of.Tie as tie
-use Rattle.tables.proofs.empty_of.Reads as reads
-use Rattle.tables.proofs.empty_of.Lts as lts
-use Rattle.rules.proofs.empty_row.Reads as empty-row-reads
 
 empty-row-requires : tie.Need-empty-row-requires
 empty-row-requires c κs = search needs

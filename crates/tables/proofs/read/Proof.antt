@@ -6,16 +6,6 @@ use Rattle.tables.proofs.Filling.{read-is}
 use borrow.Author.Needs.{needs}
 use Rattle.tables.proofs.read.Statement.{statement}
 use Rattle.tables.proofs.read.Tie as tie
-use Rattle.tables.proofs.read.Reads as reads
-use Rattle.tables.proofs.read.Lts as lts
-use Rattle.rules.proofs.answer.Reads as answer-reads
-use Rattle.rules.proofs.check_records.Reads as check-records-reads
-use Rattle.rules.proofs.refused_read.Reads as refused-read-reads
-use Rattle.tables.proofs.check_trailer.Reads as check-trailer-reads
-use Rattle.tables.proofs.records_count.Reads as records-count-reads
-use Rattle.tables.proofs.records_start.Reads as records-start-reads
-use Rattle.tables.proofs.rows_from.Reads as rows-from-reads
-use Rattle.tables.proofs.spares_from.Reads as spares-from-reads
 
 check-trailer-requires : tie.Need-check-trailer-requires
 check-trailer-requires c κs = search needs

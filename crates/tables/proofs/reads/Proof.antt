@@ -6,9 +6,6 @@ use Rattle.rules.proofs.Trailer.{answer-verdict}
 use borrow.Author.Needs.{needs}
 use Rattle.tables.proofs.reads.Statement.{statement}
 use Rattle.tables.proofs.reads.Tie as tie
-use Rattle.tables.proofs.reads.Reads as reads
-use Rattle.tables.proofs.reads.Lts as lts
-use Rattle.tables.proofs.read.Reads as read-reads
 
 read-requires : tie.Need-read-requires
 read-requires c κs = search needs

@@ -4,9 +4,6 @@ use Rattle.rules.proofs.Trailer.{readable}
 use borrow.Author.Needs.{needs}
 use Rattle.tables.proofs.records_count.Statement.{statement}
 use Rattle.tables.proofs.records_count.Tie as tie
-use Rattle.tables.proofs.records_count.Reads as reads
-use Rattle.tables.proofs.records_count.Lts as lts
-use Rattle.tables.proofs.read16.Reads as read16-reads
 
 sub-read16 : tie.Need-sub-read16
 sub-read16 c = let r = readable (c .before .args .bytes .now) (c .before .pre) in omega arith

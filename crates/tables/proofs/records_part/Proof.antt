@@ -4,10 +4,6 @@ use Rattle.rules.proofs.Trailer.{readable}
 use borrow.Author.Needs.{needs}
 use Rattle.tables.proofs.records_part.Statement.{statement}
 use Rattle.tables.proofs.records_part.Tie as tie
-use Rattle.tables.proofs.records_part.Reads as reads
-use Rattle.tables.proofs.records_part.Lts as lts
-use Rattle.tables.proofs.records_count.Reads as records-count-reads
-use Rattle.tables.proofs.records_start.Reads as records-start-reads
 
 records-start-requires : tie.Need-records-start-requires
 records-start-requires c κs = search needs

@@ -4,9 +4,6 @@ use Rattle.rules.proofs.Trailer.{readable}
 use borrow.Author.Needs.{needs}
 use Rattle.tables.proofs.records_start.Statement.{statement}
 use Rattle.tables.proofs.records_start.Tie as tie
-use Rattle.tables.proofs.records_start.Reads as reads
-use Rattle.tables.proofs.records_start.Lts as lts
-use Rattle.tables.proofs.read32.Reads as read32-reads
 
 sub-read32 : tie.Need-sub-read32
 sub-read32 c = let r = readable (c .before .args .bytes .now) (c .before .pre) in omega arith

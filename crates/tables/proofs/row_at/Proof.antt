@@ -2,10 +2,6 @@
 use borrow.Author.Needs.{needs}
 use Rattle.tables.proofs.row_at.Statement.{statement}
 use Rattle.tables.proofs.row_at.Tie as tie
-use Rattle.tables.proofs.row_at.Reads as reads
-use Rattle.tables.proofs.row_at.Lts as lts
-use Rattle.tables.proofs.read16.Reads as read16-reads
-use Rattle.tables.proofs.read32.Reads as read32-reads
 
 read16-requires : tie.Need-read16-requires
 read16-requires c κs = search needs

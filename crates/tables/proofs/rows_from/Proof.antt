@@ -7,10 +7,6 @@ use Rattle.rules.specs.StoredTable.{noRow, padded, rowOf, recordsOf}
 use Rattle.tables.proofs.Filling.{fill-next}
 use Rattle.tables.proofs.rows_from.Statement.{statement}
 use Rattle.tables.proofs.rows_from.Tie as tie
-use Rattle.tables.proofs.rows_from.Reads as reads
-use Rattle.tables.proofs.rows_from.Lts as lts
-use Rattle.rules.proofs.empty_row.Reads as empty-row-reads
-use Rattle.tables.proofs.row_at.Reads as row-at-reads
 
 abbrev Inv-loop : tie.InvT-loop
 Inv-loop bytes start count rows₀ n₀ rows n = (n ≤ count) × (rows ≡ padded n noRow (recordsOf rowOf bytes start n))

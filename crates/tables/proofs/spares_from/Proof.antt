@@ -7,9 +7,6 @@ use Rattle.rules.specs.StoredTable.{padded, spareOf, recordsOf}
 use Rattle.tables.proofs.Filling.{fill-next}
 use Rattle.tables.proofs.spares_from.Statement.{statement}
 use Rattle.tables.proofs.spares_from.Tie as tie
-use Rattle.tables.proofs.spares_from.Reads as reads
-use Rattle.tables.proofs.spares_from.Lts as lts
-use Rattle.tables.proofs.read16.Reads as read16-reads
 
 abbrev Inv-loop : tie.InvT-loop
 Inv-loop bytes start count spares₀ n₀ spares n = (n ≤ count) × (spares ≡ padded n 0 (recordsOf spareOf bytes start n))

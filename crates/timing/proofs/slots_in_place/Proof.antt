@@ -1,14 +1,14 @@
 -- `timing::slots_in_place` meets its contract: a walk of its MIR, by hand. The bytes are looked into once, before the loop, and shut once, after it.
 -- In a turn one byte is read, and the local run is lent to `slot_in_place` for a lifetime that is made for the call; once that is ended the local is whole again, at
 -- the last value that `slot_in_place`'s contract says. All that the walk knows of `slot_in_place` is that it meets its contract. Assumes nothing.
-use mathlib.Core.Path.{_≡_, refl, sym, _∙_, ap, subst}
+use mathlib.Core.Path.{_≡_, refl, sym, _∙_, ap}
 use Prim.Native.Nat.{ℕ, zero, suc, _+_, _-_, _<_, _≤_, _^_}
 use native.Mathlib.Nat.{not-suc-le-zero, le-of-suc-le-suc, eq-or-lt-of-le}
 use native.Mathlib.Numerals.{add-one}
 use native.Mathlib.Omega.{arith}
 use mathlib.Core.Bool.{Bool, true, false}
 use mathlib.Core.List.{List, [], _∷_}
-use mathlib.Core.Logic.{_⊎_, inl, inr}
+use mathlib.Core.Logic.{inl, inr}
 use mathlib.Core.WellFounded.{WellFounded, InvImage·wf}
 use lib.ListN.{length, getD, drop as dropN}
 use lib.Dec.{T, ltb, lt→ltb, ltb→lt, lit<}
@@ -31,7 +31,7 @@ use types.Run.{look, init, store, forget, stop, hop, fld, from, load, addr, lit,
 use types.SemTy.{Body}
 use types.Share.{arr-parts}
 use types.Tokens.{lft-new, lft-end}
-use sound.WpLaws.{FmC, fmOf, WpFn-mono}
+use sound.WpLaws.{fmOf, WpFn-mono}
 use denote.RattleType.{owns}
 use denote.Laws.{Is, shows}
 use denote.Memory.{mem, cellAt, partOf, pointee, shares}

@@ -3,11 +3,6 @@ use borrow.Author.Needs.{needs}
 use mathlib.Core.Path.{_∙_}
 use Rattle.timing.proofs.timing_slots.Statement.{statement}
 use Rattle.timing.proofs.timing_slots.Tie as tie
-use Rattle.timing.proofs.timing_slots.Reads as reads
-use Rattle.timing.proofs.timing_slots.Lts as lts
-use Rattle.running.proofs.start.Reads as start-reads
-use Rattle.timing.proofs.seen_at.Reads as seen-at-reads
-use Rattle.timing.proofs.slots_in_place.Reads as slots-in-place-reads
 
 start-requires : tie.Need-start-requires
 start-requires c κs = search needs

@@ -3,11 +3,6 @@ use Prim.Native.Nat.{_-_, _≤_}
 use borrow.Author.Needs.{needs}
 use Rattle.cases.proofs.planning_cases.print_rows.Statement.{statement}
 use Rattle.cases.proofs.planning_cases.print_rows.Tie as tie
-use Rattle.cases.proofs.planning_cases.print_rows.Reads as reads
-use Rattle.cases.proofs.planning_cases.print_rows.Lts as lts
-use Rattle.cases.proofs.titles.say.Reads as say-reads
-use Rattle.printing.proofs.byte.Reads as byte-reads
-use Rattle.printing.proofs.number.Reads as number-reads
 
 abbrev Inv-loop : tie.InvT-loop
 Inv-loop plan i₀ i = i ≤ 64

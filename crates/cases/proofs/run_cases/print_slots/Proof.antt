@@ -3,10 +3,6 @@ use Prim.Native.Nat.{_≤_, _-_}
 use borrow.Author.Needs.{needs}
 use Rattle.cases.proofs.run_cases.print_slots.Statement.{statement}
 use Rattle.cases.proofs.run_cases.print_slots.Tie as tie
-use Rattle.cases.proofs.run_cases.print_slots.Reads as reads
-use Rattle.cases.proofs.run_cases.print_slots.Lts as lts
-use Rattle.cases.proofs.run_cases.print_state.Reads as print-state-reads
-use Rattle.running.proofs.slot.Reads as slot-reads
 
 abbrev Inv-loop : tie.InvT-loop
 Inv-loop stolen now₀ k₀ k-end now k = k ≤ k-end

@@ -3,11 +3,6 @@ use Prim.Native.Nat.{_-_, _≤_}
 use borrow.Author.Needs.{needs}
 use Rattle.cases.proofs.run_cases.print_state.Statement.{statement}
 use Rattle.cases.proofs.run_cases.print_state.Tie as tie
-use Rattle.cases.proofs.run_cases.print_state.Reads as reads
-use Rattle.cases.proofs.run_cases.print_state.Lts as lts
-use Rattle.cases.proofs.titles.say.Reads as say-reads
-use Rattle.printing.proofs.byte.Reads as byte-reads
-use Rattle.printing.proofs.number.Reads as number-reads
 
 abbrev Inv-loop : tie.InvT-loop
 Inv-loop run i₀ i = i ≤ 3

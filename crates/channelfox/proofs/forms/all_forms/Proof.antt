@@ -5,9 +5,6 @@ use lib.ListN.{length-map}
 use Rattle.channelfox.proofs.Mapped.{Tested, tested-none, tested-next, tested-all}
 use Rattle.channelfox.proofs.forms.all_forms.Statement.{statement}
 use Rattle.channelfox.proofs.forms.all_forms.Tie as tie
-use Rattle.channelfox.proofs.forms.all_forms.Reads as reads
-use Rattle.channelfox.proofs.forms.all_forms.Lts as lts
-use Rattle.channelfox.proofs.forms.is_form.Reads as is-form-reads
 
 abbrev Inv-loop : tie.InvT-loop
 Inv-loop form ok₀ i₀ ok i = Tested (form .rows) ok i

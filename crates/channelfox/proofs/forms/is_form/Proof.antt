@@ -3,8 +3,6 @@ use borrow.Author.Needs.{needs}
 use Rattle.channelfox.specs.Forms.{isForm}
 use Rattle.channelfox.proofs.forms.is_form.Statement.{statement}
 use Rattle.channelfox.proofs.forms.is_form.Tie as tie
-use Rattle.channelfox.proofs.forms.is_form.Reads as reads
-use Rattle.channelfox.proofs.forms.is_form.Lts as lts
 
 returns : tie.Need-returns
 unfolding isForm

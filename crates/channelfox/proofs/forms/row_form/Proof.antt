@@ -3,11 +3,6 @@ use borrow.Author.Needs.{needs}
 use Rattle.channelfox.specs.Forms.{rowForm}
 use Rattle.channelfox.proofs.forms.row_form.Statement.{statement}
 use Rattle.channelfox.proofs.forms.row_form.Tie as tie
-use Rattle.channelfox.proofs.forms.row_form.Reads as reads
-use Rattle.channelfox.proofs.forms.row_form.Lts as lts
-use Rattle.channelfox.proofs.forms.mark.Reads as mark-reads
-use Rattle.channelfox.proofs.forms.stored_held.Reads as stored-held-reads
-use Rattle.channelfox.proofs.forms.stored_kind.Reads as stored-kind-reads
 
 mark-requires : tie.Need-mark-requires
 mark-requires c κs = search needs

@@ -7,9 +7,6 @@ use Rattle.channelfox.specs.Forms.{rowForm}
 use Rattle.channelfox.proofs.Mapped.{Done, done-none, done-next, done-all}
 use Rattle.channelfox.proofs.forms.run_form.Statement.{statement}
 use Rattle.channelfox.proofs.forms.run_form.Tie as tie
-use Rattle.channelfox.proofs.forms.run_form.Reads as reads
-use Rattle.channelfox.proofs.forms.run_form.Lts as lts
-use Rattle.channelfox.proofs.forms.row_form.Reads as row-form-reads
 
 abbrev Inv-loop : tie.InvT-loop
 Inv-loop run rows₀ i₀ rows i = Done rowForm (run .rows) rows i

@@ -7,9 +7,6 @@ use Rattle.channelfox.specs.Forms.{rowOf}
 use Rattle.channelfox.proofs.Mapped.{Done, done-none, done-next, done-all}
 use Rattle.channelfox.proofs.forms.run_of.Statement.{statement}
 use Rattle.channelfox.proofs.forms.run_of.Tie as tie
-use Rattle.channelfox.proofs.forms.run_of.Reads as reads
-use Rattle.channelfox.proofs.forms.run_of.Lts as lts
-use Rattle.channelfox.proofs.forms.row_of.Reads as row-of-reads
 
 abbrev Inv-loop : tie.InvT-loop
 Inv-loop form rows₀ i₀ rows i = Done rowOf (form .rows) rows i

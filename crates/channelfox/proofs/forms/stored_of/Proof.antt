@@ -2,8 +2,6 @@
 use borrow.Author.Tests.{eq-eqb, ne-eqb}
 use Rattle.channelfox.proofs.forms.stored_of.Statement.{statement}
 use Rattle.channelfox.proofs.forms.stored_of.Tie as tie
-use Rattle.channelfox.proofs.forms.stored_of.Reads as reads
-use Rattle.channelfox.proofs.forms.stored_of.Lts as lts
 
 returns : tie.Need-returns
 returns c = simp (eq-eqb _ _ (c .if1 .taken))

@@ -2,9 +2,6 @@
 use borrow.Author.Needs.{needs}
 use Rattle.channelfox.proofs.forms.verdict_form.Statement.{statement}
 use Rattle.channelfox.proofs.forms.verdict_form.Tie as tie
-use Rattle.channelfox.proofs.forms.verdict_form.Reads as reads
-use Rattle.channelfox.proofs.forms.verdict_form.Lts as lts
-use Rattle.rules.proofs.refusal_number.Reads as refusal-number-reads
 
 enum-told : tie.Need-enum-told
 enum-told c = search needs

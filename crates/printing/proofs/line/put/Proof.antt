@@ -4,8 +4,6 @@ use borrow.Author.Needs.{needs}
 use Rattle.printing.proofs.Places.{put-one, put-beyond}
 use Rattle.printing.proofs.line.put.Statement.{statement}
 use Rattle.printing.proofs.line.put.Tie as tie
-use Rattle.printing.proofs.line.put.Reads as reads
-use Rattle.printing.proofs.line.put.Lts as lts
 
 element-write-line : tie.Need-element-write-line
 element-write-line c = search needs

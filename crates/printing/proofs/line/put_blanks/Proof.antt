@@ -7,9 +7,6 @@ use Rattle.printing.proofs.Places.{put-none, blank-on}
 use borrow.Author.Needs.{needs}
 use Rattle.printing.proofs.line.put_blanks.Statement.{statement}
 use Rattle.printing.proofs.line.put_blanks.Tie as tie
-use Rattle.printing.proofs.line.put_blanks.Reads as reads
-use Rattle.printing.proofs.line.put_blanks.Lts as lts
-use Rattle.printing.proofs.line.put.Reads as put-reads
 
 abbrev Inv-loop : tie.InvT-loop
 Inv-loop line₀ at count to₀ i₀ line to i = (i ≤ count) × ((line ≡ lineAfter line₀ at (blanks i)) × (to ≡ placeAfter at (blanks i)))

@@ -4,10 +4,6 @@ use Rattle.printing.proofs.Places.{fewest-decimal}
 use borrow.Author.Needs.{needs}
 use Rattle.printing.proofs.line.put_number.Statement.{statement}
 use Rattle.printing.proofs.line.put_number.Tie as tie
-use Rattle.printing.proofs.line.put_number.Reads as reads
-use Rattle.printing.proofs.line.put_number.Lts as lts
-use Rattle.io.proofs.decimal.Reads as decimal-reads
-use Rattle.printing.proofs.line.put_text.Reads as put-text-reads
 
 decimal-requires : tie.Need-decimal-requires
 decimal-requires c κs = search needs

@@ -9,12 +9,6 @@ use Rattle.printing.proofs.Places.{put-then, fewest-decimal}
 use borrow.Author.Needs.{needs}
 use Rattle.printing.proofs.line.put_padded.Statement.{statement}
 use Rattle.printing.proofs.line.put_padded.Tie as tie
-use Rattle.printing.proofs.line.put_padded.Reads as reads
-use Rattle.printing.proofs.line.put_padded.Lts as lts
-use Rattle.io.proofs.decimal.Reads as decimal-reads
-use Rattle.printing.proofs.line.missing.Reads as missing-reads
-use Rattle.printing.proofs.line.put_blanks.Reads as put-blanks-reads
-use Rattle.printing.proofs.line.put_text.Reads as put-text-reads
 
 decimal-requires : tie.Need-decimal-requires
 decimal-requires c κs = search needs

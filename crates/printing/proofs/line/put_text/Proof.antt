@@ -9,9 +9,6 @@ use Rattle.printing.proofs.Places.{put-none, text-on}
 use borrow.Author.Needs.{needs}
 use Rattle.printing.proofs.line.put_text.Statement.{statement}
 use Rattle.printing.proofs.line.put_text.Tie as tie
-use Rattle.printing.proofs.line.put_text.Reads as reads
-use Rattle.printing.proofs.line.put_text.Lts as lts
-use Rattle.printing.proofs.line.put.Reads as put-reads
 
 abbrev Inv-loop : tie.InvT-loop
 Inv-loop line₀ at text to₀ i₀ i-end line to i = (i ≤ i-end) × (i-end ≡ length text) × ((line ≡ lineAfter line₀ at (take i text)) × (to ≡ placeAfter at (take i text)))

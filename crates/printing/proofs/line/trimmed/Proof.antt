@@ -3,8 +3,6 @@ use Prim.Native.Nat.{_≤_, _-_}
 use borrow.Author.Needs.{needs}
 use Rattle.printing.proofs.line.trimmed.Statement.{statement}
 use Rattle.printing.proofs.line.trimmed.Tie as tie
-use Rattle.printing.proofs.line.trimmed.Reads as reads
-use Rattle.printing.proofs.line.trimmed.Lts as lts
 
 abbrev Inv-loop : tie.InvT-loop
 Inv-loop line at to₀ i₀ to i = i ≤ 160

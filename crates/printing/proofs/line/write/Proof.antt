@@ -5,9 +5,6 @@ use lib.Seq.{length-take-le}
 use borrow.Author.Needs.{needs}
 use Rattle.printing.proofs.line.write.Statement.{statement}
 use Rattle.printing.proofs.line.write.Tie as tie
-use Rattle.printing.proofs.line.write.Reads as reads
-use Rattle.printing.proofs.line.write.Lts as lts
-use Rattle.printing.proofs.text.Reads as text-reads
 
 slice-aggregate-text : tie.Need-slice-aggregate-text
 slice-aggregate-text c = sym (length-take-le (c .before .before .before .args .to) (c .before .before .before .args .bytes .now) (omega arith))

@@ -4,8 +4,6 @@ use lib.ListN.{length}
 use borrow.Author.Needs.{needs}
 use Rattle.printing.proofs.texts.line_end.Statement.{statement}
 use Rattle.printing.proofs.texts.line_end.Tie as tie
-use Rattle.printing.proofs.texts.line_end.Reads as reads
-use Rattle.printing.proofs.texts.line_end.Lts as lts
 
 abbrev Inv-loop : tie.InvT-loop
 Inv-loop texts start at₀ at = (start ≤ at) × (at ≤ length texts)

@@ -4,8 +4,6 @@ use lib.ListN.{length}
 use borrow.Author.Needs.{needs}
 use Rattle.printing.proofs.texts.line_start.Statement.{statement}
 use Rattle.printing.proofs.texts.line_start.Tie as tie
-use Rattle.printing.proofs.texts.line_start.Reads as reads
-use Rattle.printing.proofs.texts.line_start.Lts as lts
 
 abbrev Inv-loop : tie.InvT-loop
 Inv-loop texts n left₀ at₀ left at = at ≤ length texts

@@ -3,11 +3,6 @@ use Prim.Native.Nat.{_≤_, _-_}
 use borrow.Author.Needs.{needs}
 use Rattle.replay.proofs.chart.draw.Statement.{statement}
 use Rattle.replay.proofs.chart.draw.Tie as tie
-use Rattle.replay.proofs.chart.draw.Reads as reads
-use Rattle.replay.proofs.chart.draw.Lts as lts
-use Rattle.replay.proofs.chart.set_sign.Reads as set-sign-reads
-use Rattle.replay.proofs.tallies.job_sign.Reads as job-sign-reads
-use Rattle.replay.proofs.tallies.value_sign.Reads as value-sign-reads
 
 abbrev Inv-loop : tie.InvT-loop
 Inv-loop jobs₀ values₀ column before after i₀ jobs values i = i ≤ 64

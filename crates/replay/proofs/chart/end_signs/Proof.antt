@@ -3,11 +3,6 @@ use Prim.Native.Nat.{_≤_, _-_}
 use borrow.Author.Needs.{needs}
 use Rattle.replay.proofs.chart.end_signs.Statement.{statement}
 use Rattle.replay.proofs.chart.end_signs.Tie as tie
-use Rattle.replay.proofs.chart.end_signs.Reads as reads
-use Rattle.replay.proofs.chart.end_signs.Lts as lts
-use Rattle.replay.proofs.chart.sign_at.Reads as sign-at-reads
-use Rattle.printing.proofs.end.Reads as end-reads
-use Rattle.printing.proofs.put.Reads as put-reads
 
 abbrev Inv-loop : tie.InvT-loop
 Inv-loop line₀ signs row width at₀ c₀ line at c = c ≤ 100

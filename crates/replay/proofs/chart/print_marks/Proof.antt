@@ -3,11 +3,6 @@ use Prim.Native.Nat.{_≤_, _-_}
 use borrow.Author.Needs.{needs}
 use Rattle.replay.proofs.chart.print_marks.Statement.{statement}
 use Rattle.replay.proofs.chart.print_marks.Tie as tie
-use Rattle.replay.proofs.chart.print_marks.Reads as reads
-use Rattle.replay.proofs.chart.print_marks.Lts as lts
-use Rattle.printing.proofs.end.Reads as end-reads
-use Rattle.printing.proofs.put.Reads as put-reads
-use Rattle.printing.proofs.put_text.Reads as put-text-reads
 
 abbrev Inv-loop : tie.InvT-loop
 Inv-loop marks width line₀ at₀ c₀ line at c = c ≤ 100

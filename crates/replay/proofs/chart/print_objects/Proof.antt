@@ -3,9 +3,6 @@ use Prim.Native.Nat.{_≤_, _-_}
 use borrow.Author.Needs.{needs}
 use Rattle.replay.proofs.chart.print_objects.Statement.{statement}
 use Rattle.replay.proofs.chart.print_objects.Tie as tie
-use Rattle.replay.proofs.chart.print_objects.Reads as reads
-use Rattle.replay.proofs.chart.print_objects.Lts as lts
-use Rattle.replay.proofs.chart.print_object.Reads as print-object-reads
 
 abbrev Inv-loop : tie.InvT-loop
 Inv-loop jobs values width run i₀ i = i ≤ 64

@@ -3,12 +3,6 @@ use Prim.Native.Nat.{_≤_, _-_}
 use borrow.Author.Needs.{needs}
 use Rattle.replay.proofs.chart.print_ruler.Statement.{statement}
 use Rattle.replay.proofs.chart.print_ruler.Tie as tie
-use Rattle.replay.proofs.chart.print_ruler.Reads as reads
-use Rattle.replay.proofs.chart.print_ruler.Lts as lts
-use Rattle.replay.proofs.chart.put_mark.Reads as put-mark-reads
-use Rattle.printing.proofs.end.Reads as end-reads
-use Rattle.printing.proofs.put_text.Reads as put-text-reads
-use Rattle.std.proofs.num.wrapping_add_usize.Reads as wrapping-add-usize-reads
 
 abbrev Inv-loop : tie.InvT-loop
 Inv-loop first width line₀ last₀ c₀ line last c = c ≤ 100

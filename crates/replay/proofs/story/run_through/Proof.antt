@@ -3,17 +3,6 @@ use Prim.Native.Nat.{_≤_, _-_}
 use borrow.Author.Needs.{needs}
 use Rattle.replay.proofs.story.run_through.Statement.{statement}
 use Rattle.replay.proofs.story.run_through.Tie as tie
-use Rattle.replay.proofs.story.run_through.Reads as reads
-use Rattle.replay.proofs.story.run_through.Lts as lts
-use Rattle.replay.proofs.chart.draw.Reads as draw-reads
-use Rattle.replay.proofs.chart.first_drawn.Reads as first-drawn-reads
-use Rattle.replay.proofs.chart.mark.Reads as mark-reads
-use Rattle.replay.proofs.story.counted.Reads as counted-reads
-use Rattle.replay.proofs.story.is_stolen.Reads as is-stolen-reads
-use Rattle.replay.proofs.story.place_after.Reads as place-after-reads
-use Rattle.replay.proofs.tallies.no_tallies.Reads as no-tallies-reads
-use Rattle.replay.proofs.tallies.tallied.Reads as tallied-reads
-use Rattle.running.proofs.slot.Reads as slot-reads
 
 abbrev Inv-loop : tie.InvT-loop
 Inv-loop slots pattern jobs₀ values₀ marks₀ first now₀ all₀ stolen₀ at₀ k₀ jobs values marks now all stolen at k =

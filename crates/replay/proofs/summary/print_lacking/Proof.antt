@@ -3,9 +3,6 @@ use Prim.Native.Nat.{_≤_, _-_}
 use borrow.Author.Needs.{needs}
 use Rattle.replay.proofs.summary.print_lacking.Statement.{statement}
 use Rattle.replay.proofs.summary.print_lacking.Tie as tie
-use Rattle.replay.proofs.summary.print_lacking.Reads as reads
-use Rattle.replay.proofs.summary.print_lacking.Lts as lts
-use Rattle.replay.proofs.summary.print_id.Reads as print-id-reads
 
 abbrev Inv-loop : tie.InvT-loop
 Inv-loop last run rows first₀ i₀ first i = i ≤ 64

@@ -3,10 +3,6 @@ use Prim.Native.Nat.{_≤_, _-_}
 use borrow.Author.Needs.{needs}
 use Rattle.replay.proofs.summary.print_rows.Statement.{statement}
 use Rattle.replay.proofs.summary.print_rows.Tie as tie
-use Rattle.replay.proofs.summary.print_rows.Reads as reads
-use Rattle.replay.proofs.summary.print_rows.Lts as lts
-use Rattle.printing.proofs.text.Reads as text-reads
-use Rattle.replay.proofs.summary.print_row.Reads as print-row-reads
 
 abbrev Inv-loop : tie.InvT-loop
 Inv-loop run rows i₀ i = i ≤ 64

@@ -3,9 +3,6 @@ use Prim.Native.Nat.{_≤_, _-_}
 use borrow.Author.Needs.{needs}
 use Rattle.replay.proofs.tallies.last_lacking.Statement.{statement}
 use Rattle.replay.proofs.tallies.last_lacking.Tie as tie
-use Rattle.replay.proofs.tallies.last_lacking.Reads as reads
-use Rattle.replay.proofs.tallies.last_lacking.Lts as lts
-use Rattle.replay.proofs.tallies.larger.Reads as larger-reads
 
 abbrev Inv-loop : tie.InvT-loop
 Inv-loop count rows last₀ i₀ last i = i ≤ 64

@@ -3,9 +3,6 @@ use Prim.Native.Nat.{_≤_, _-_}
 use borrow.Author.Needs.{needs}
 use Rattle.replay.proofs.tallies.tallied.Statement.{statement}
 use Rattle.replay.proofs.tallies.tallied.Tie as tie
-use Rattle.replay.proofs.tallies.tallied.Reads as reads
-use Rattle.replay.proofs.tallies.tallied.Lts as lts
-use Rattle.replay.proofs.tallies.tallied_row.Reads as tallied-row-reads
 
 abbrev Inv-loop : tie.InvT-loop
 Inv-loop before after rows₀ i₀ rows i = i ≤ 64

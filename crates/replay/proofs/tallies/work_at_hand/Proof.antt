@@ -3,8 +3,6 @@ use Rattle.rules.specs.Run.{releasedOf}
 use borrow.Author.Tests.{eq-eqb, ne-eqb}
 use Rattle.replay.proofs.tallies.work_at_hand.Statement.{statement}
 use Rattle.replay.proofs.tallies.work_at_hand.Tie as tie
-use Rattle.replay.proofs.tallies.work_at_hand.Reads as reads
-use Rattle.replay.proofs.tallies.work_at_hand.Lts as lts
 
 returns : tie.Need-returns
 unfolding releasedOf

@@ -3,8 +3,6 @@ use Prim.Native.Nat.{_≤_, _-_}
 use borrow.Author.Needs.{needs}
 use Rattle.replay.proofs.words.is_pattern.Statement.{statement}
 use Rattle.replay.proofs.words.is_pattern.Tie as tie
-use Rattle.replay.proofs.words.is_pattern.Reads as reads
-use Rattle.replay.proofs.words.is_pattern.Lts as lts
 
 abbrev Inv-loop : tie.InvT-loop
 Inv-loop word good₀ i₀ i-end good i = i ≤ i-end

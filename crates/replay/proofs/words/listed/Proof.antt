@@ -3,11 +3,6 @@ use Prim.Native.Nat.{_≤_, _-_}
 use borrow.Author.Needs.{needs}
 use Rattle.replay.proofs.words.listed.Statement.{statement}
 use Rattle.replay.proofs.words.listed.Tie as tie
-use Rattle.replay.proofs.words.listed.Reads as reads
-use Rattle.replay.proofs.words.listed.Lts as lts
-use Rattle.replay.proofs.words.closed.Reads as closed-reads
-use Rattle.replay.proofs.words.extended.Reads as extended-reads
-use Rattle.replay.proofs.words.no_numbers.Reads as no-numbers-reads
 
 abbrev Inv-loop : tie.InvT-loop
 Inv-loop bytes list₀ i₀ i-end list i = i ≤ i-end

@@ -5,9 +5,6 @@ use lib.Seq.{length-take-le}
 use borrow.Author.Needs.{needs}
 use Rattle.replay.proofs.words.started_with.Statement.{statement}
 use Rattle.replay.proofs.words.started_with.Tie as tie
-use Rattle.replay.proofs.words.started_with.Reads as reads
-use Rattle.replay.proofs.words.started_with.Lts as lts
-use Rattle.running.proofs.start.Reads as start-reads
 
 slice-aggregate-start : tie.Need-slice-aggregate-start
 slice-aggregate-start c = sym (length-take-le (c .before .before .before .args .count) (c .before .before .before .args .firsts .now) (omega arith))

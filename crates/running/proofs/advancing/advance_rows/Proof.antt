@@ -1,14 +1,14 @@
 -- `running::advancing::advance_rows` meets its contract: between slots `Going` holds, and between the rows of a slot that looks at all of them `Passing`.
 -- Assumes nothing.
 use Prim.Native.Nat.{_-_}
-use mathlib.Core.Path.{refl, _∙_}
+use mathlib.Core.Path.{refl, sym, _∙_}
 use mathlib.Core.Logic.{⊎-elim}
 use native.Mathlib.Omega.{arith}
-use borrow.Author.Needs.{needs}
 use lib.ListN.{length, length-map}
-use Rattle.running.proofs.Turns.{passed-is}
-use Rattle.running.proofs.CalmSlots.{AllIdle, calm-fewer}
+use Rattle.stepping.proofs.OneRow.{passed-is}
+use Rattle.running.proofs.CalmSlots.{AllIdle}
 use Rattle.running.proofs.Going.{Passing, passing-none, passing-unmoved, passing-stored, Going, going-none, going-pass, going-stolen, going-unused, going-less, going-done, idle-more, slots-end}
+use borrow.Author.Needs.{needs}
 use Rattle.running.proofs.advancing.advance_rows.Statement.{statement}
 use Rattle.running.proofs.advancing.advance_rows.Tie as tie
 
@@ -33,10 +33,12 @@ abbrev μ-slots : tie.MeasureT-slots
 slots-holds : tie.Need-slots-holds Inv-pass μ-pass Inv-seek μ-seek Inv-slots μ-slots
 slots-holds c = going-none (c .before .before .pre) (simp length-map at (c .before .before .good .0 .1 .1 .1 .1 .0 .1 .0 .1))
 
-wrapping-add-u32-requires : tie.Need-wrapping-add-u32-requires Inv-pass μ-pass Inv-seek μ-seek Inv-slots μ-slots
+wrapping-add-u32-requires :
+    tie.Need-wrapping-add-u32-requires Inv-pass μ-pass Inv-seek μ-seek Inv-slots μ-slots
 wrapping-add-u32-requires c κs = search needs
 
-shared-slice-read-free : tie.Need-shared-slice-read-free Inv-pass μ-pass Inv-seek μ-seek Inv-slots μ-slots
+shared-slice-read-free :
+    tie.Need-shared-slice-read-free Inv-pass μ-pass Inv-seek μ-seek Inv-slots μ-slots
 shared-slice-read-free c = search needs
 
 pass-holds : tie.Need-pass-holds Inv-pass μ-pass Inv-seek μ-seek Inv-slots μ-slots
@@ -48,14 +50,11 @@ mul-row c = search needs
 array-copy-out-row : tie.Need-array-copy-out-row Inv-pass μ-pass Inv-seek μ-seek Inv-slots μ-slots
 array-copy-out-row c = search needs
 
-quiet-requires : tie.Need-quiet-requires Inv-pass μ-pass Inv-seek μ-seek Inv-slots μ-slots
-quiet-requires c κs = search needs
+unmoved-requires : tie.Need-unmoved-requires Inv-pass μ-pass Inv-seek μ-seek Inv-slots μ-slots
+unmoved-requires c κs = search needs
 
 calm-row-requires : tie.Need-calm-row-requires Inv-pass μ-pass Inv-seek μ-seek Inv-slots μ-slots
 calm-row-requires c κs = search needs
-
-lower-requires : tie.Need-lower-requires Inv-pass μ-pass Inv-seek μ-seek Inv-slots μ-slots
-lower-requires c κs = search needs
 
 add-i : tie.Need-add-i Inv-pass μ-pass Inv-seek μ-seek Inv-slots μ-slots
 add-i c = search needs
@@ -65,8 +64,8 @@ pass-less c = search needs
 
 pass-again : tie.Need-pass-again Inv-pass μ-pass Inv-seek μ-seek Inv-slots μ-slots
 pass-again c =
-    passing-unmoved (c .before .before .before .before .before .before .pass .inv) _ (c .before .before .before .before .before .pass-test .taken) _ _ (c .before .before .before .quiet .ensures (c .before .before .if2 .taken))
-    (rw (c .before .before .before .before .before .before .before .before .before .wrapping-add-u32 .ensures) at (c .before .calm-row .ensures)) (c .lower .ensures .0) (c .lower .ensures .1)
+    passing-unmoved (c .before .before .before .before .before .pass .inv) _ (c .before .before .before .before .pass-test .taken) _ (sym (c .before .before .unmoved .ensures) ∙ c .before .if2 .taken)
+    (c .calm-row .ensures .0) (rw (c .before .before .before .before .before .before .before .before .wrapping-add-u32 .ensures) at (c .calm-row .ensures .1))
 
 released-requires : tie.Need-released-requires Inv-pass μ-pass Inv-seek μ-seek Inv-slots μ-slots
 released-requires c κs = search needs
@@ -74,7 +73,8 @@ released-requires c κs = search needs
 worked-requires : tie.Need-worked-requires Inv-pass μ-pass Inv-seek μ-seek Inv-slots μ-slots
 worked-requires c κs = search needs
 
-still-free-requires : tie.Need-still-free-requires Inv-pass μ-pass Inv-seek μ-seek Inv-slots μ-slots
+still-free-requires :
+    tie.Need-still-free-requires Inv-pass μ-pass Inv-seek μ-seek Inv-slots μ-slots
 still-free-requires c κs = search needs
 
 aged-requires : tie.Need-aged-requires Inv-pass μ-pass Inv-seek μ-seek Inv-slots μ-slots
@@ -83,28 +83,27 @@ aged-requires c κs = search needs
 mul-rows : tie.Need-mul-rows Inv-pass μ-pass Inv-seek μ-seek Inv-slots μ-slots
 mul-rows c = search (needs, c .before .before .before .before .before .before .before .before .pass .inv .passed .few, c .before .before .before .before .before .before .before .pass-test .taken)
 
-array-set-from-rows : tie.Need-array-set-from-rows Inv-pass μ-pass Inv-seek μ-seek Inv-slots μ-slots
+array-set-from-rows :
+    tie.Need-array-set-from-rows Inv-pass μ-pass Inv-seek μ-seek Inv-slots μ-slots
 array-set-from-rows c = search (needs, c .before .before .before .before .before .before .before .before .pass .inv .passed .few, c .before .before .before .before .before .before .before .pass-test .taken)
 
-calm-row-requires-2 : tie.Need-calm-row-requires-2 Inv-pass μ-pass Inv-seek μ-seek Inv-slots μ-slots
+calm-row-requires-2 :
+    tie.Need-calm-row-requires-2 Inv-pass μ-pass Inv-seek μ-seek Inv-slots μ-slots
 calm-row-requires-2 c κs = search needs
 
-lower-requires-2 : tie.Need-lower-requires-2 Inv-pass μ-pass Inv-seek μ-seek Inv-slots μ-slots
-lower-requires-2 c κs = search needs
-
 add-i-2 : tie.Need-add-i-2 Inv-pass μ-pass Inv-seek μ-seek Inv-slots μ-slots
-add-i-2 c = search (needs, c .before .before .before .before .before .before .before .before .before .before .pass .inv .passed .few, c .before .before .before .before .before .before .before .before .before .pass-test .taken)
+add-i-2 c = search (needs, c .before .before .before .before .before .before .before .before .before .pass .inv .passed .few, c .before .before .before .before .before .before .before .before .pass-test .taken)
 
 pass-less-2 : tie.Need-pass-less-2 Inv-pass μ-pass Inv-seek μ-seek Inv-slots μ-slots
 pass-less-2 c = search needs
 
 pass-again-2 : tie.Need-pass-again-2 Inv-pass μ-pass Inv-seek μ-seek Inv-slots μ-slots
 pass-again-2 c =
-    let w = c .before .before .before .before .before .before .before .before .before .before .before .before .before .wrapping-add-u32 .ensures in
-    let r = c .before .before .before .before .before .released .ensures in
-    rw (c .before .before .before .still-free .ensures, r)
-    (passing-stored (c .before .before .before .before .before .before .before .before .before .before .pass .inv) _ (c .before .before .before .before .before .before .before .before .before .pass-test .taken) _ _ _ (passed-is _ _ _ w r (c .before .before .before .before .worked .ensures) (c .before .before .aged .ensures))
-    (rw w at (c .before .calm-row2 .ensures)) (c .lower2 .ensures .0) (c .lower2 .ensures .1))
+    let w = c .before .before .before .before .before .before .before .before .before .before .before .before .wrapping-add-u32 .ensures in
+    let r = c .before .before .before .before .released .ensures in
+    rw (c .before .before .still-free .ensures, r)
+    (passing-stored (c .before .before .before .before .before .before .before .before .before .pass .inv) _ (c .before .before .before .before .before .before .before .before .pass-test .taken) _ _ (passed-is _ _ _ w r (c .before .before .before .worked .ensures) (c .before .aged .ensures))
+    (c .calm-row2 .ensures .0) (rw w at (c .calm-row2 .ensures .1)))
 
 add-k : tie.Need-add-k Inv-pass μ-pass Inv-seek μ-seek Inv-slots μ-slots
 add-k c = search needs
@@ -133,7 +132,8 @@ seek-holds c = c .before .before .before .before .before .slots .inv .idle
 mul-if4 : tie.Need-mul-if4 Inv-pass μ-pass Inv-seek μ-seek Inv-slots μ-slots
 mul-if4 c = search needs
 
-element-copy-out-if4 : tie.Need-element-copy-out-if4 Inv-pass μ-pass Inv-seek μ-seek Inv-slots μ-slots
+element-copy-out-if4 :
+    tie.Need-element-copy-out-if4 Inv-pass μ-pass Inv-seek μ-seek Inv-slots μ-slots
 element-copy-out-if4 c = search needs
 
 add-first : tie.Need-add-first Inv-pass μ-pass Inv-seek μ-seek Inv-slots μ-slots
@@ -144,8 +144,8 @@ seek-less c = search needs
 
 seek-again : tie.Need-seek-again Inv-pass μ-pass Inv-seek μ-seek Inv-slots μ-slots
 seek-again c =
-    let g = c .before .before .before .before .before .before .before .before in
-    idle-more (g .slots .rows) _ _ (omega (arith, c .before .seek-test .taken, g .slots .inv .long, g .slots .inv .few)) (c .before .before .seek .inv) (c .if4 .left)
+    let g = c .before .before .before .before .before .before .before .before .slots in
+    idle-more (g .rows) _ _ (omega (arith, c .before .seek-test .taken, g .inv .long, g .inv .few)) (c .before .before .seek .inv) (c .if4 .left)
 
 slots-less-3 : tie.Need-slots-less-3 Inv-pass μ-pass Inv-seek μ-seek Inv-slots μ-slots
 slots-less-3 c = search needs
@@ -158,7 +158,8 @@ slots-again-3 c =
 mul-row-2 : tie.Need-mul-row-2 Inv-pass μ-pass Inv-seek μ-seek Inv-slots μ-slots
 mul-row-2 c = search needs
 
-array-copy-out-row-2 : tie.Need-array-copy-out-row-2 Inv-pass μ-pass Inv-seek μ-seek Inv-slots μ-slots
+array-copy-out-row-2 :
+    tie.Need-array-copy-out-row-2 Inv-pass μ-pass Inv-seek μ-seek Inv-slots μ-slots
 array-copy-out-row-2 c = search needs
 
 sub-rows : tie.Need-sub-rows Inv-pass μ-pass Inv-seek μ-seek Inv-slots μ-slots
@@ -167,7 +168,8 @@ sub-rows c = search needs
 mul-rows-2 : tie.Need-mul-rows-2 Inv-pass μ-pass Inv-seek μ-seek Inv-slots μ-slots
 mul-rows-2 c = search needs
 
-way-write-given-rows : tie.Need-way-write-given-rows Inv-pass μ-pass Inv-seek μ-seek Inv-slots μ-slots
+way-write-given-rows :
+    tie.Need-way-write-given-rows Inv-pass μ-pass Inv-seek μ-seek Inv-slots μ-slots
 way-write-given-rows c = search needs
 
 slots-less-4 : tie.Need-slots-less-4 Inv-pass μ-pass Inv-seek μ-seek Inv-slots μ-slots
@@ -187,25 +189,24 @@ aged-requires-2 c κs = search needs
 mul-rows-3 : tie.Need-mul-rows-3 Inv-pass μ-pass Inv-seek μ-seek Inv-slots μ-slots
 mul-rows-3 c = search (needs, c .before .before .before .before .before .before .before .before .before .before .before .before .before .slots .inv .few, c .before .before .before .before .before .if5 .left)
 
-array-set-from-rows-2 : tie.Need-array-set-from-rows-2 Inv-pass μ-pass Inv-seek μ-seek Inv-slots μ-slots
+array-set-from-rows-2 :
+    tie.Need-array-set-from-rows-2 Inv-pass μ-pass Inv-seek μ-seek Inv-slots μ-slots
 array-set-from-rows-2 c = search (needs, c .before .before .before .before .before .before .before .before .before .before .before .before .before .slots .inv .few, c .before .before .before .before .before .if5 .left)
 
-calm-row-requires-3 : tie.Need-calm-row-requires-3 Inv-pass μ-pass Inv-seek μ-seek Inv-slots μ-slots
+calm-row-requires-3 :
+    tie.Need-calm-row-requires-3 Inv-pass μ-pass Inv-seek μ-seek Inv-slots μ-slots
 calm-row-requires-3 c κs = search needs
 
-lower-requires-3 : tie.Need-lower-requires-3 Inv-pass μ-pass Inv-seek μ-seek Inv-slots μ-slots
-lower-requires-3 c κs = search needs
-
 slots-less-5 : tie.Need-slots-less-5 Inv-pass μ-pass Inv-seek μ-seek Inv-slots μ-slots
-slots-less-5 c = search (needs, c .before .before .before .before .before .before .before .before .before .before .before .before .before .before .slots-test .taken)
+slots-less-5 c = search (needs, c .before .before .before .before .before .before .before .before .before .before .before .before .before .slots-test .taken)
 
 slots-again-5 : tie.Need-slots-again-5 Inv-pass μ-pass Inv-seek μ-seek Inv-slots μ-slots
 slots-again-5 c =
-    let w = c .before .before .before .before .before .before .before .before .before .before .before .before .before .wrapping-add-u32 .ensures in
-    let work = ⊎-elim (λ u. absurd (omega (arith, u .left, c .before .before .before .before .before .before .before .if5 .left))) (λ u. u .1 .taken) (c .before .before .before .before .before .before .before .before .seek-test .came) in
+    let w = c .before .before .before .before .before .before .before .before .before .before .before .before .wrapping-add-u32 .ensures in
+    let work = ⊎-elim (λ u. absurd (omega (arith, u .left, c .before .before .before .before .before .before .if5 .left))) (λ u. u .1 .taken) (c .before .before .before .before .before .before .before .seek-test .came) in
     rw w
-    (going-done (c .before .before .before .before .before .before .before .before .before .before .before .before .before .before .before .slots .inv) (c .before .before .before .before .before .before .before .before .before .before .before .before .before .before .slots-test .taken) (omega (arith, c .before .before .before .before .before .before .before .before .before .before .before .if1 .left)) (c .before .before .before .before .before .before .before .before .before .before .if3 .left) (c .before .before .before .before .before .before .before .before .before .seek .inv) _ _ _ (c .before .before .before .before .before .before .before .if5 .left) work
-    (c .before .before .aged2 .ensures ∙ rw (c .before .before .before .served .ensures, w) refl) (c .lower3 .ensures .0) (calm-fewer _ _ _ _ (c .lower3 .ensures .1) (rw w at (c .before .calm-row3 .ensures))))
+    (going-done (c .before .before .before .before .before .before .before .before .before .before .before .before .before .before .slots .inv) (c .before .before .before .before .before .before .before .before .before .before .before .before .before .slots-test .taken) (omega (arith, c .before .before .before .before .before .before .before .before .before .before .if1 .left)) (c .before .before .before .before .before .before .before .before .before .if3 .left) (c .before .before .before .before .before .before .before .before .seek .inv) _ _ _ (c .before .before .before .before .before .before .if5 .left) work
+    (c .before .aged2 .ensures ∙ rw (c .before .before .served .ensures, w) refl) (c .calm-row3 .ensures .0) (rw w at (c .calm-row3 .ensures .1)))
 
 returns : tie.Need-returns Inv-pass μ-pass Inv-seek μ-seek Inv-slots μ-slots
 returns c = slots-end _ _ _ _ (c .slots-test .left) (c .before .slots .inv .on)
@@ -226,9 +227,8 @@ advance-rows-spec =
     pass-holds
     mul-row
     array-copy-out-row
-    quiet-requires
+    unmoved-requires
     calm-row-requires
-    lower-requires
     add-i
     pass-less
     pass-again
@@ -239,7 +239,6 @@ advance-rows-spec =
     mul-rows
     array-set-from-rows
     calm-row-requires-2
-    lower-requires-2
     add-i-2
     pass-less-2
     pass-again-2
@@ -270,7 +269,6 @@ advance-rows-spec =
     mul-rows-3
     array-set-from-rows-2
     calm-row-requires-3
-    lower-requires-3
     slots-less-5
     slots-again-5
     returns)

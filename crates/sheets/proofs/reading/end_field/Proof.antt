@@ -5,8 +5,6 @@ use Rattle.sheets.proofs.Fields.{stopped-end, stopped-other, stopped-he
 use borrow.Author.Needs.{needs}
 use Rattle.sheets.proofs.reading.end_field.Statement.{statement}
 use Rattle.sheets.proofs.reading.end_field.Tie as tie
-use Rattle.sheets.proofs.reading.end_field.Reads as reads
-use Rattle.sheets.proofs.reading.end_field.Lts as lts
 
 returns : tie.Need-returns
 returns c = let a = c .before .args in too-large (a .bytes .now) (a .at) (a .limit) (a .stop) (a .value) (c .if1 .taken)

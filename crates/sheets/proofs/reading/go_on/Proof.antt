@@ -8,8 +8,6 @@ use Rattle.sheets.proofs.Fields.{number-ends, number-stops, GoingOn, go
 use borrow.Author.Needs.{needs}
 use Rattle.sheets.proofs.reading.go_on.Statement.{statement}
 use Rattle.sheets.proofs.reading.go_on.Tie as tie
-use Rattle.sheets.proofs.reading.go_on.Reads as reads
-use Rattle.sheets.proofs.reading.go_on.Lts as lts
 
 abbrev Inv-loop : tie.InvT-loop
 Inv-loop bytes at value limit size most v₀ next₀ v next = GoingOn bytes at value v next

@@ -5,10 +5,6 @@ use lib.ListN.{length}
 use borrow.Author.Needs.{needs}
 use Rattle.sheets.proofs.reading.import.Statement.{statement}
 use Rattle.sheets.proofs.reading.import.Tie as tie
-use Rattle.sheets.proofs.reading.import.Reads as reads
-use Rattle.sheets.proofs.reading.import.Lts as lts
-use Rattle.rules.proofs.refused_read.Reads as refused-read-reads
-use Rattle.sheets.proofs.reading.read_lines.Reads as read-lines-reads
 
 refused-read-requires : tie.Need-refused-read-requires
 refused-read-requires c κs = search needs

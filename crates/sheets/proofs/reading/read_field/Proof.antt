@@ -7,10 +7,6 @@ use Rattle.sheets.proofs.Fields.{no-field, zero-field, no-number, numbe
 use borrow.Author.Needs.{needs}
 use Rattle.sheets.proofs.reading.read_field.Statement.{statement}
 use Rattle.sheets.proofs.reading.read_field.Tie as tie
-use Rattle.sheets.proofs.reading.read_field.Reads as reads
-use Rattle.sheets.proofs.reading.read_field.Lts as lts
-use Rattle.sheets.proofs.reading.end_field.Reads as end-field-reads
-use Rattle.sheets.proofs.reading.go_on.Reads as go-on-reads
 
 returns : tie.Need-returns
 returns c =

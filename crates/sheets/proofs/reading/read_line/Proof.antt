@@ -6,9 +6,6 @@ use Rattle.sheets.proofs.Fields.{line-without-id, line-without-cost, li
 use borrow.Author.Needs.{needs}
 use Rattle.sheets.proofs.reading.read_line.Statement.{statement}
 use Rattle.sheets.proofs.reading.read_line.Tie as tie
-use Rattle.sheets.proofs.reading.read_line.Reads as reads
-use Rattle.sheets.proofs.reading.read_line.Lts as lts
-use Rattle.sheets.proofs.reading.read_field.Reads as read-field-reads
 
 read-field-requires : tie.Need-read-field-requires
 read-field-requires c κs = search needs

@@ -8,12 +8,6 @@ use Rattle.sheets.proofs.Walked.{Walked, walked-none, all-read, bad-lin
 use borrow.Author.Needs.{needs}
 use Rattle.sheets.proofs.reading.read_lines.Statement.{statement}
 use Rattle.sheets.proofs.reading.read_lines.Tie as tie
-use Rattle.sheets.proofs.reading.read_lines.Reads as reads
-use Rattle.sheets.proofs.reading.read_lines.Lts as lts
-use Rattle.rules.proofs.empty_row.Reads as empty-row-reads
-use Rattle.rules.proofs.refused_read.Reads as refused-read-reads
-use Rattle.rules.proofs.check_answer.Reads as check-answer-reads
-use Rattle.sheets.proofs.reading.read_line.Reads as read-line-reads
 
 abbrev Inv-loop : tie.InvT-loop
 Inv-loop bytes rows₀ count₀ at₀ rows count at = Walked bytes rows count at

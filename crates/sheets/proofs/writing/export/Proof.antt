@@ -10,11 +10,6 @@ use Rattle.rules.proofs.Put.{rows-refused, room-refused, all-put}
 use borrow.Author.Needs.{needs}
 use Rattle.sheets.proofs.writing.export.Statement.{statement}
 use Rattle.sheets.proofs.writing.export.Tie as tie
-use Rattle.sheets.proofs.writing.export.Reads as reads
-use Rattle.sheets.proofs.writing.export.Lts as lts
-use Rattle.rules.proofs.check_table.Reads as check-table-reads
-use Rattle.sheets.proofs.writing.put_lines.Reads as put-lines-reads
-use Rattle.sheets.proofs.writing.sheet_size.Reads as sheet-size-reads
 
 check-table-requires : tie.Need-check-table-requires
 check-table-requires c κs = search needs

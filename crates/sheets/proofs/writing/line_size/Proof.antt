@@ -4,9 +4,6 @@ use Rattle.sheets.proofs.Printed.{line-length}
 use borrow.Author.Needs.{needs}
 use Rattle.sheets.proofs.writing.line_size.Statement.{statement}
 use Rattle.sheets.proofs.writing.line_size.Tie as tie
-use Rattle.sheets.proofs.writing.line_size.Reads as reads
-use Rattle.sheets.proofs.writing.line_size.Lts as lts
-use Rattle.sheets.proofs.writing.width.Reads as width-reads
 
 cast-width : tie.Need-cast-width
 cast-width c = search needs

@@ -11,9 +11,6 @@ use Rattle.sheets.proofs.Printed.{field-length, kept}
 use borrow.Author.Needs.{needs}
 use Rattle.sheets.proofs.writing.put_field.Statement.{statement}
 use Rattle.sheets.proofs.writing.put_field.Tie as tie
-use Rattle.sheets.proofs.writing.put_field.Reads as reads
-use Rattle.sheets.proofs.writing.put_field.Lts as lts
-use Rattle.sheets.proofs.writing.put_number.Reads as put-number-reads
 
 put-number-requires : tie.Need-put-number-requires
 put-number-requires c κs = let a = c .before .before .args in omega (arith, field-length (a .x) (a .stop), c .before .before .pre)

@@ -11,9 +11,6 @@ use Rattle.sheets.proofs.Printed.{line-fields, kept}
 use borrow.Author.Needs.{needs}
 use Rattle.sheets.proofs.writing.put_line.Statement.{statement}
 use Rattle.sheets.proofs.writing.put_line.Tie as tie
-use Rattle.sheets.proofs.writing.put_line.Reads as reads
-use Rattle.sheets.proofs.writing.put_line.Lts as lts
-use Rattle.sheets.proofs.writing.put_field.Reads as put-field-reads
 
 cast-put-field : tie.Need-cast-put-field
 cast-put-field c = search needs

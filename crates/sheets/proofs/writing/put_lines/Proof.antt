@@ -11,9 +11,6 @@ use Rattle.sheets.proofs.Printed.{kept, sheet-next, sheet-longer, sheet
 use borrow.Author.Needs.{needs}
 use Rattle.sheets.proofs.writing.put_lines.Statement.{statement}
 use Rattle.sheets.proofs.writing.put_lines.Tie as tie
-use Rattle.sheets.proofs.writing.put_lines.Reads as reads
-use Rattle.sheets.proofs.writing.put_lines.Lts as lts
-use Rattle.sheets.proofs.writing.put_line.Reads as put-line-reads
 
 abbrev Inv-loop : tie.InvT-loop
 Inv-loop buffer₀ count rows at₀ i₀ buffer at i = (i ≤ count) × ((at ≡ length (sheetBytes (take i rows))) × (buffer ≡ sets buffer₀ 0 (sheetBytes (take i rows))))

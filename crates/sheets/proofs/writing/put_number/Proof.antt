@@ -8,9 +8,6 @@ use Rattle.sheets.proofs.Printed.{Putting, putting-next, putting-done}
 use borrow.Author.Needs.{needs}
 use Rattle.sheets.proofs.writing.put_number.Statement.{statement}
 use Rattle.sheets.proofs.writing.put_number.Tie as tie
-use Rattle.sheets.proofs.writing.put_number.Reads as reads
-use Rattle.sheets.proofs.writing.put_number.Lts as lts
-use Rattle.sheets.proofs.writing.width.Reads as width-reads
 
 abbrev Inv-loop : tie.InvT-loop
 Inv-loop buffer₀ at x end y₀ i₀ buffer y i = Putting buffer₀ at x buffer y i

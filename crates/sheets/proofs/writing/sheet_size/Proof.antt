@@ -8,9 +8,6 @@ use Rattle.sheets.proofs.Printed.{sheet-longer}
 use borrow.Author.Needs.{needs}
 use Rattle.sheets.proofs.writing.sheet_size.Statement.{statement}
 use Rattle.sheets.proofs.writing.sheet_size.Tie as tie
-use Rattle.sheets.proofs.writing.sheet_size.Reads as reads
-use Rattle.sheets.proofs.writing.sheet_size.Lts as lts
-use Rattle.sheets.proofs.writing.line_size.Reads as line-size-reads
 
 abbrev Inv-loop : tie.InvT-loop
 Inv-loop count rows size₀ i₀ size i = (i ≤ count) × ((size ≤ 12884901892 * i) × (size ≡ length (sheetBytes (take i rows))))

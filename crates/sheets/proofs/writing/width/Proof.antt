@@ -8,8 +8,6 @@ use Rattle.rules.specs.Sheet.{decimal}
 use Rattle.rules.proofs.Digits.{decimal-small, decimal-longer, decimal-few}
 use Rattle.sheets.proofs.writing.width.Statement.{statement}
 use Rattle.sheets.proofs.writing.width.Tie as tie
-use Rattle.sheets.proofs.writing.width.Reads as reads
-use Rattle.sheets.proofs.writing.width.Lts as lts
 
 abbrev Inv-loop : tie.InvT-loop
 Inv-loop x y₀ n₀ y n = n + length (decimal y) ≡ 1 + length (decimal x)

@@ -5,8 +5,6 @@ use lib.ListN.{length-set}
 use borrow.Author.Needs.{needs}
 use Rattle.tables.proofs.writing.put16.Statement.{statement}
 use Rattle.tables.proofs.writing.put16.Tie as tie
-use Rattle.tables.proofs.writing.put16.Reads as reads
-use Rattle.tables.proofs.writing.put16.Lts as lts
 
 cast-buffer : tie.Need-cast-buffer
 cast-buffer c = search needs

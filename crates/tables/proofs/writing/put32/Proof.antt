@@ -7,9 +7,6 @@ use Rattle.rules.proofs.Put.{put-then}
 use borrow.Author.Needs.{needs}
 use Rattle.tables.proofs.writing.put32.Statement.{statement}
 use Rattle.tables.proofs.writing.put32.Tie as tie
-use Rattle.tables.proofs.writing.put32.Reads as reads
-use Rattle.tables.proofs.writing.put32.Lts as lts
-use Rattle.tables.proofs.writing.put16.Reads as put16-reads
 
 cast-put16 : tie.Need-cast-put16
 cast-put16 c = search needs

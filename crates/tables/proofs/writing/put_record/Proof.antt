@@ -8,10 +8,6 @@ use Rattle.rules.proofs.Put.{put-then}
 use borrow.Author.Needs.{needs}
 use Rattle.tables.proofs.writing.put_record.Statement.{statement}
 use Rattle.tables.proofs.writing.put_record.Tie as tie
-use Rattle.tables.proofs.writing.put_record.Reads as reads
-use Rattle.tables.proofs.writing.put_record.Lts as lts
-use Rattle.tables.proofs.writing.put16.Reads as put16-reads
-use Rattle.tables.proofs.writing.put32.Reads as put32-reads
 
 put16-requires : tie.Need-put16-requires
 put16-requires c κs = search needs

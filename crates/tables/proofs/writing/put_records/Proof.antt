@@ -11,9 +11,6 @@ use Rattle.rules.proofs.Bytes.{records-length, records-next}
 use Rattle.rules.proofs.Put.{put-then}
 use Rattle.tables.proofs.writing.put_records.Statement.{statement}
 use Rattle.tables.proofs.writing.put_records.Tie as tie
-use Rattle.tables.proofs.writing.put_records.Reads as reads
-use Rattle.tables.proofs.writing.put_records.Lts as lts
-use Rattle.tables.proofs.writing.put_record.Reads as put-record-reads
 
 abbrev Inv-loop : tie.InvT-loop
 Inv-loop buffer₀ count rows i₀ buffer i = (i ≤ count) × (buffer ≡ sets buffer₀ 0 (recordsBytes (take i rows)))

@@ -9,10 +9,6 @@ use Rattle.rules.proofs.Put.{put-then}
 use borrow.Author.Needs.{needs}
 use Rattle.tables.proofs.writing.put_trailer.Statement.{statement}
 use Rattle.tables.proofs.writing.put_trailer.Tie as tie
-use Rattle.tables.proofs.writing.put_trailer.Reads as reads
-use Rattle.tables.proofs.writing.put_trailer.Lts as lts
-use Rattle.tables.proofs.writing.put16.Reads as put16-reads
-use Rattle.tables.proofs.writing.put32.Reads as put32-reads
 
 mul-put32 : tie.Need-mul-put32
 mul-put32 c = search needs

@@ -14,11 +14,6 @@ use Rattle.tables.proofs.Wrote.{table-size, records-trailer}
 use borrow.Author.Needs.{needs}
 use Rattle.tables.proofs.writing.write.Statement.{statement}
 use Rattle.tables.proofs.writing.write.Tie as tie
-use Rattle.tables.proofs.writing.write.Reads as reads
-use Rattle.tables.proofs.writing.write.Lts as lts
-use Rattle.rules.proofs.check_table.Reads as check-table-reads
-use Rattle.tables.proofs.writing.put_records.Reads as put-records-reads
-use Rattle.tables.proofs.writing.put_trailer.Reads as put-trailer-reads
 
 check-table-requires : tie.Need-check-table-requires
 check-table-requires c κs = search needs

@@ -1,0 +1,21 @@
+-- What a step answers, by whether the state is acceptable. Assumes nothing.
+use Prim.Native.Nat.{ℕ}
+use mathlib.Core.Path.{_≡_, refl}
+use mathlib.Core.Bool.{Bool, true, false, not}
+use mathlib.Core.List.{List}
+use Rattle.rules.specs.declared.RunRow.{RunRow}
+use Rattle.rules.specs.declared.Run.{Run}
+use Rattle.rules.specs.RunState.{usedRows, acceptable}
+use Rattle.rules.specs.Run.{tick, slotOf, notRunState, stepped, steppedOf}
+use Rattle.running.proofs.ThreeSteps.{one-pass}
+use Rattle.running.proofs.Turns.{rest}
+
+module _ (run : Run) (stolen : Bool) where
+  pub refused : acceptable run ≡ false → notRunState run ≡ steppedOf run stolen
+  unfolding steppedOf
+  refused h = simp h
+
+  -- accepted, and the slot done
+  pub accepted : (after : ℕ) (rows : List RunRow) → acceptable run ≡ true → after ≡ tick (run .clock) → rows ≡ rest (run .clock) (not stolen) (run .count) (run .rows) → stepped (record { clock = after; count = run .count; rows = rows }) ≡ steppedOf run stolen
+  unfolding steppedOf slotOf
+  accepted after rows h n e = rw (h, n, e, one-pass (run .clock) stolen (usedRows run)) refl

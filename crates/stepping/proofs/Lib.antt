@@ -1,0 +1,4 @@
+pub mod Lists
+pub mod OneRow
+pub mod Scan
+pub mod Checked

@@ -9,7 +9,7 @@
 static channelfox_run run;
 
 static int refused(const char *what, channelfox_verdict verdict) {
-    printf("%s: refused %u at %zu\n", what, (unsigned)verdict.number, verdict.place);
+    printf("%s: refused %u at %zu: %s\n", what, (unsigned)verdict.number, verdict.place, channelfox_refusal_text(verdict.number));
     return 1;
 }
 
@@ -20,10 +20,10 @@ static void print_values(void) {
         printf("object %u: ", (unsigned)row->planned.id);
         if (reading.verdict.number != 0)
             printf("refused %u", (unsigned)reading.verdict.number);
-        else if (reading.value == CHANNELFOX_FRESH)
+        else if (reading.value == CHANNELFOX_READING_FRESH)
             printf("current, %u slots old of %u", (unsigned)reading.age, (unsigned)row->planned.validity);
         else
-            printf("%s", reading.value == CHANNELFOX_STALE ? "stale" : "no value yet");
+            printf("%s", reading.value == CHANNELFOX_READING_STALE ? "stale" : "no value yet");
         printf(", %u skipped\n", (unsigned)row->skips);
     }
 }

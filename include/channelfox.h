@@ -1,8 +1,22 @@
 /* Channelfox for C: stored tables, plans and runs, by the rules of document 01.
  *
- * Link with libchannelfox.a (`rt staticlib channelfox`). No function keeps anything between calls, none allocates, and none
- * asks anything of what it is handed but that each pointer goes with its length: bytes, rows, numbers and run states may be
- * good or bad, and what is bad is refused with a number and a place. What is lent for reading is never changed.
+ * Link with libchannelfox.a (`rt staticlib channelfox`). Bytes, rows, numbers and run states may be good or bad: what is bad is
+ * refused with a number and a place, and nothing more is asked than what stands here.
+ *
+ * Memory. Nothing is allocated and nothing is kept between calls. What is lent for reading (`const`) is never changed; a buffer or a run
+ * that is lent for writing is changed as its function says, and nothing beside it. The parts lent to one call must not overlap where one
+ * of them is written.
+ * Threads. No function has a state of its own, so any number of threads may call at once, as long as no two of them work on the same
+ * run or the same buffer at the same time.
+ * NULL. A pointer that goes with a length must point to that many elements, and with length 0 to anything but NULL. NULL is not
+ * looked for: a NULL pointer, as any that does not go with its length, has no defined outcome.
+ * Sizes, in bytes: a table 776, a plan 1,288, a run 3,088; an object row 12, a planned row 20, a run row 48; the answers a verdict
+ * (16) more.
+ * Stack, measured: channelfox_advance 28 KB, channelfox_start 21, channelfox_slot 19, channelfox_read_value 16, the plans 10, the others
+ * under 4.
+ * Padding. There are two bytes of padding behind each `id`, and padding behind `number`, `clock` and `source`: they are not set, so two
+ * equal structs may differ under memcmp. Compare field by field.
+ * Targets. The library is compiled for x86-64 Linux, for C99 and later and for C++.
  *
  * Refusals (verdict.number; 0 is "accepted"), with the place told:
  *    1 fewer than 8 bytes                                   0
@@ -36,6 +50,8 @@
 extern "C" {
 #endif
 
+#define CHANNELFOX_VERSION "0.6.0"
+
 #define CHANNELFOX_ROWS 64
 
 /* number 0 and place 0: accepted; otherwise the refusal. */
@@ -68,8 +84,8 @@ typedef struct {
     channelfox_plan_row rows[CHANNELFOX_ROWS];
 } channelfox_plan;
 
-/* The stored value of an object: none, held with its sample instant, or lapsed. */
-enum { CHANNELFOX_NONE = 0, CHANNELFOX_HELD = 1, CHANNELFOX_LAPSED = 2 };
+/* The stored value of an object: none, held with its sample instant, or lapsed. What a reading says has other numbers (below). */
+enum { CHANNELFOX_STORED_NONE = 0, CHANNELFOX_STORED_HELD = 1, CHANNELFOX_STORED_LAPSED = 2 };
 
 typedef struct {
     channelfox_plan_row planned;
@@ -77,7 +93,7 @@ typedef struct {
     uint32_t left;    /* work left of the job in hand, 0 if none */
     uint32_t sample;  /* that job's sample instant */
     uint32_t lapsed;  /* whether that sample has lapsed: 0 or 1 */
-    uint32_t stored;  /* CHANNELFOX_NONE, _HELD or _LAPSED */
+    uint32_t stored;  /* CHANNELFOX_STORED_NONE, _HELD or _LAPSED */
     uint32_t held;    /* the sample instant of a held value, 0 otherwise */
     uint32_t skips;   /* releases skipped, stopping at 4,294,967,295 */
 } channelfox_run_row;
@@ -103,12 +119,13 @@ typedef struct {
     channelfox_run run;
 } channelfox_run_answer;
 
-/* What a reading says: no value yet, a value that has lapsed, or a fresh one with its age. */
-enum { CHANNELFOX_NEVER = 0, CHANNELFOX_STALE = 1, CHANNELFOX_FRESH = 2 };
+/* What a reading says: no value yet, a value that has lapsed, or a fresh one with its age. No number here is one of
+ * CHANNELFOX_STORED_*, so a row's `stored` is never equal to CHANNELFOX_READING_FRESH. */
+enum { CHANNELFOX_READING_NONE = 3, CHANNELFOX_READING_STALE = 4, CHANNELFOX_READING_FRESH = 5 };
 
 typedef struct {
     channelfox_verdict verdict;
-    uint32_t value; /* CHANNELFOX_NEVER, _STALE or _FRESH; 0 where refused */
+    uint32_t value; /* CHANNELFOX_READING_NONE, _STALE or _FRESH; 0 where refused */
     uint32_t age;   /* of a fresh value, in slots; otherwise 0 */
 } channelfox_reading;
 
@@ -174,12 +191,57 @@ channelfox_run_answer channelfox_start(channelfox_table table, uint32_t clock, c
  * above 2, or that holds an instant while nothing is held, is no run state (here and below). */
 channelfox_verdict channelfox_slot(channelfox_run *run, bool stolen);
 
-/* One slot for each byte of `stolen`: 0, the core is ours; anything else, it is stolen. Refusal 13, also where `length` is 0,
- * hands the run back exactly as it came in. */
+/* One slot for each byte of `stolen`: 0, the core is ours; anything else, it is stolen. No byte is no slot: an acceptable run comes
+ * back accepted and unchanged. A run state that is not acceptable gets refusal 13, whatever `length` is, and comes back exactly as it
+ * came in. */
 channelfox_run_answer channelfox_advance(channelfox_run run, const uint8_t *stolen, size_t length);
 
 /* What is known of an object's value. Refusals 13, then 14, with no age and no value. */
 channelfox_reading channelfox_read_value(channelfox_run run, uint16_t id);
+
+/* What a refusal number says, in a few words and without a line end; "accepted" for 0. */
+static inline const char *channelfox_refusal_text(unsigned number) {
+    switch (number) {
+    case 0:
+        return "accepted";
+    case 1:
+        return "fewer than 8 bytes";
+    case 2:
+        return "more than 4096 bytes";
+    case 3:
+        return "the bytes do not end in the mark of a stored table";
+    case 4:
+        return "the number of objects is not from 1 to 64";
+    case 5:
+        return "the distance is too small for so many records";
+    case 6:
+        return "the spare bytes of a record are not zero";
+    case 7:
+        return "a cost is not from 1 to 1000000";
+    case 8:
+        return "a validity is not from 2 to 1000000";
+    case 9:
+        return "an id is that of an earlier record";
+    case 10:
+        return "an object has no deadline within half its validity";
+    case 11:
+        return "there are not as many first releases as objects";
+    case 12:
+        return "a first release is not below its object's period";
+    case 13:
+        return "not a run state";
+    case 14:
+        return "no object has that id";
+    case 15:
+        return "the distance is above the number of bytes";
+    case 16:
+        return "the buffer is too small for what is to be written";
+    case 17:
+        return "a line is not of the form id,cost,validity CR LF";
+    default:
+        return "no such refusal";
+    }
+}
 
 #ifdef __cplusplus
 }

@@ -4,7 +4,7 @@
 /// The rows of a table, a plan and a run: CHANNELFOX_ROWS.
 pub const ROWS: usize = 64;
 
-/// How a stored value is told: CHANNELFOX_NONE, CHANNELFOX_HELD and CHANNELFOX_LAPSED.
+/// How a stored value is told: CHANNELFOX_STORED_NONE, _HELD and _LAPSED.
 pub const NONE: u32 = 0;
 pub const HELD: u32 = 1;
 pub const LAPSED: u32 = 2;

@@ -83,14 +83,15 @@ pub struct CRunAnswer {
     pub run: CRun,
 }
 
-// What a reading says: no value yet, a stale one, or a fresh one.
-const NEVER: u32 = 0;
+// What a reading says: no value yet, a stale one, or a fresh one. None of these is a number of `CRunRow.stored`, so that one taken for
+// the other is never equal to it.
+const NEVER: u32 = 3;
 
-const STALE: u32 = 1;
+const STALE: u32 = 4;
 
-const FRESH: u32 = 2;
+const FRESH: u32 = 5;
 
-// A reading: which value, and the age of a fresh one; NEVER and 0 where refused.
+// A reading: which value, and the age of a fresh one; 0 and 0 where refused.
 #[repr(C)]
 pub struct CReading {
     pub verdict: CVerdict,
@@ -318,7 +319,7 @@ fn reading_form(reading: Reading) -> CReading
         Reading::Fresh(age) => value_form(FRESH, age),
         Reading::Refused(refusal, place) => CReading {
             verdict: verdict_form(Verdict::Refused(refusal, place)),
-            value: NEVER,
+            value: 0,
             age: 0,
         },
     }

@@ -1,5 +1,5 @@
 // The compare program: reads a stored table from standard input and prints the classic plan, Half-Half, and ours, More-Less, side by
-// side with each object's share of the core, or which of the two refuses and where.
+// side with each object's share of the core, or which of the two refuses and where; why ours does, on standard error.
 use libc::STDIN_FILENO;
 use printing::end;
 use printing::put;
@@ -142,6 +142,18 @@ fn compare(table: Table) {
         let ours = less.plan;
         print_plans(ranked, fits, classic, planned, ours);
     }
+    conclude(table, less_verdict);
+}
+
+// The comparison is done, and refused where our plan refuses: a table that fits the classic one fits ours.
+fn conclude(table: Table, verdict: Verdict) {
+    match verdict {
+        Verdict::Accepted => printing::ended(0),
+        Verdict::Refused(_, place) => {
+            printing::explain_plan(table, place);
+            printing::ended(1);
+        }
+    }
 }
 
 fn answer(bytes: &[u8]) {
@@ -149,8 +161,9 @@ fn answer(bytes: &[u8]) {
     let verdict = read.verdict;
     match verdict {
         Verdict::Refused(refusal, place) => {
-            printing::refused(refusal, place);
-            printing::byte(b'\n');
+            printing::refused_line(refusal, place);
+            printing::explain_table(bytes, refusal, place);
+            printing::ended(1);
         }
         Verdict::Accepted => {
             let table = read.table;

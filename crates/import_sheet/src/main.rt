@@ -1,5 +1,5 @@
 // The import program: reads a reseller's sheet from standard input and writes the stored table to standard output. A refusal is told on
-// standard error as "refused N at K", and nothing is written.
+// standard error as "refused N at K" and why, and nothing is written.
 use libc::STDIN_FILENO;
 use rules::Table;
 use rules::Verdict;
@@ -17,10 +17,15 @@ fn answer(bytes: &[u8]) {
     let read = sheets::import(bytes);
     let verdict = read.verdict;
     match verdict {
-        Verdict::Refused(refusal, place) => printing::complaint(refusal, place),
+        Verdict::Refused(refusal, place) => {
+            printing::complaint(refusal, place);
+            printing::explain_sheet(bytes, refusal, place);
+            printing::ended(1);
+        }
         Verdict::Accepted => {
             let table = read.table;
             write_table(table);
+            printing::ended(0);
         }
     }
 }

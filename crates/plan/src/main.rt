@@ -1,7 +1,8 @@
-// The plan program: reads a stored table from standard input and prints its plan, or "refused N at K".
+// The plan program: reads a stored table from standard input and prints its plan, or "refused N at K" and, on standard error, why.
 use libc::STDIN_FILENO;
 use rules::Plan;
 use rules::PlanRow;
+use rules::Table;
 use rules::Verdict;
 
 // One object: id, cost, validity, deadline, period.
@@ -31,29 +32,37 @@ fn print_plan(plan: Plan) {
     }
 }
 
+// The plan of a table that reads.
+fn plan(table: Table) {
+    let planned = planning::plan_table(table);
+    let verdict = planned.verdict;
+    match verdict {
+        Verdict::Refused(refusal, place) => {
+            printing::refused_line(refusal, place);
+            printing::explain_plan(table, place);
+            printing::ended(1);
+        }
+        Verdict::Accepted => {
+            let plan = planned.plan;
+            print_plan(plan);
+            printing::ended(0);
+        }
+    }
+}
+
 // The answer to the bytes of a stored table.
 fn answer(bytes: &[u8]) {
     let read = tables::read(bytes);
     let verdict = read.verdict;
     match verdict {
         Verdict::Refused(refusal, place) => {
-            printing::refused(refusal, place);
-            printing::byte(b'\n');
+            printing::refused_line(refusal, place);
+            printing::explain_table(bytes, refusal, place);
+            printing::ended(1);
         }
         Verdict::Accepted => {
             let table = read.table;
-            let planned = planning::plan_table(table);
-            let planned_verdict = planned.verdict;
-            match planned_verdict {
-                Verdict::Refused(refusal, place) => {
-                    printing::refused(refusal, place);
-                    printing::byte(b'\n');
-                }
-                Verdict::Accepted => {
-                    let plan = planned.plan;
-                    print_plan(plan);
-                }
-            }
+            plan(table);
         }
     }
 }

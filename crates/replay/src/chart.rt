@@ -9,16 +9,24 @@ use printing::put_padded;
 use printing::put_text;
 use rules::Run;
 
-// The first slot that is drawn.
-pub(crate) fn first_drawn(slots: usize) -> usize {
-    if slots < 100 { 0 } else { slots - 100 }
+// The first slot that is drawn: `from`, or where that is not within the run the one from which on its last 100 are drawn.
+pub(crate) fn first_drawn(slots: usize, from: usize) -> usize
+    ensures { λ r. ⌜ r ≤ slots ⌝ }
+{
+    if from < slots {
+        from
+    } else if slots < 100 {
+        0
+    } else {
+        slots - 100
+    }
 }
 
-// How many slots are drawn.
-fn width_of(slots: usize) -> usize
-    ensures { λ r. ⌜ (r ≤ slots) × (r ≤ 100) ⌝ }
+// How many slots are drawn, of those that are left.
+fn width_of(left: usize) -> usize
+    ensures { λ r. ⌜ (r ≤ left) × (r ≤ 100) ⌝ }
 {
-    if slots < 100 { slots } else { 100 }
+    if left < 100 { left } else { 100 }
 }
 
 // Whether the slot of a column is stolen.
@@ -77,12 +85,18 @@ value: = fresh  ? stale  blank: none yet      stolen slots: x\n",
     );
 }
 
-// Where the chart begins, if not with slot 0.
-fn print_part(slots: usize) {
-    if 100 < slots {
-        printing::text(b"the last 100 of ");
-        printing::number(slots as u64);
-        printing::text(b" slots\n");
+// Which slots the chart shows, if not all.
+fn print_part(slots: usize, first: usize, width: usize) {
+    if width < slots {
+        printing::filled(
+            b"# of # slots, from slot # on (--from SLOT shows others)\n",
+            0,
+            width as u64,
+            slots as u64,
+            first as u64,
+            0,
+        );
+        printing::byte(b'\n');
     }
 }
 
@@ -155,14 +169,18 @@ fn print_objects(run: Run, jobs: &[u8; 6400], values: &[u8; 6400], width: usize)
 pub(crate) fn print(
     run: Run,
     slots: usize,
+    first: usize,
     jobs: &[u8; 6400],
     values: &[u8; 6400],
     marks: &[u8; 100],
 ) {
-    let width = width_of(slots);
+    if slots < first {
+        return;
+    }
+    let width = width_of(slots - first);
     print_legend();
-    print_part(slots);
-    print_ruler(first_drawn(slots), width);
+    print_part(slots, first, width);
+    print_ruler(first, width);
     print_marks(marks, width);
     print_objects(run, jobs, values, width);
 }

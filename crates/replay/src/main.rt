@@ -1,106 +1,124 @@
-// The replay program: runs a stored table slot by slot and shows what happened.
+// The replay program: reads a stored table from standard input, runs it slot by slot and shows what happened.
 mod chart;
-mod refusals;
+mod incidents;
 mod story;
 mod summary;
 mod tallies;
 mod words;
 
+use libc::STDIN_FILENO;
+use rules::Refusal;
 use rules::Run;
 use rules::Table;
 use rules::Verdict;
-use words::List;
+use words::Words;
 
 // Prints what happened; `stolen` is the pattern of stolen slots.
-fn show(run: Run, slots: usize, stolen: &[u8]) {
+fn show(run: Run, slots: usize, from: usize, stolen: &[u8]) {
+    let mut owners = [64u8; 1000000];
     let mut jobs = [b' '; 6400];
     let mut values = [b' '; 6400];
     let mut marks = [b' '; 100];
-    let told = story::run_through(run, slots, stolen, &mut jobs, &mut values, &mut marks);
+    let first = chart::first_drawn(slots, from);
+    let told = story::run_through(
+        run,
+        slots,
+        first,
+        stolen,
+        &mut owners,
+        &mut jobs,
+        &mut values,
+        &mut marks,
+    );
     let after = told.run;
     let tallies = told.tallies;
+    let incidents = told.incidents;
     summary::print_header(after, slots, told.stolen);
-    chart::print(after, slots, &jobs, &values, &marks);
-    summary::print(after, tallies, slots);
+    chart::print(after, slots, first, &jobs, &values, &marks);
+    summary::print(after, tallies);
+    incidents::print(after, incidents, slots, &owners);
+    summary::print_end(after, tallies, slots, incidents.count);
+}
+
+// A refused start: 10, or first releases that do not fit the table.
+fn explain(table: Table, words: Words, refusal: Refusal, place: usize) {
+    if rules::refusal_number(refusal) == 10 {
+        printing::explain_plan(table, place);
+        return;
+    }
+    let firsts = words.firsts;
+    let numbers = firsts.numbers;
+    let mut first = 0;
+    if place < 65 {
+        first = numbers[place];
+    }
+    printing::explain_start(table, refusal, place, firsts.count, first);
 }
 
 // Starts the table at clock 0 and shows the run, or says why it is refused.
-fn start(table: Table, slots: usize, firsts: List, stolen: &[u8]) {
+fn start(table: Table, words: Words, stolen: &[u8]) {
+    let firsts = words.firsts;
     let started = words::started(table, firsts);
     let verdict = started.verdict;
     match verdict {
-        Verdict::Refused(refusal, place) => refusals::print_start(table, refusal, place),
+        Verdict::Refused(refusal, place) => {
+            printing::refused_line(refusal, place);
+            explain(table, words, refusal, place);
+            printing::ended(1);
+        }
         Verdict::Accepted => {
             let run = started.run;
-            show(run, slots, stolen);
+            show(run, words.slots, words.from, stolen);
+            printing::ended(0);
         }
     }
 }
 
 // The answer to the bytes of a stored table.
-fn answer(bytes: &[u8], slots: usize, firsts: List, stolen: &[u8]) {
+fn answer(bytes: &[u8], words: Words, stolen: &[u8]) {
     let read = tables::read(bytes);
     let verdict = read.verdict;
     match verdict {
-        Verdict::Refused(refusal, place) => refusals::print(refusal, place),
+        Verdict::Refused(refusal, place) => {
+            printing::refused_line(refusal, place);
+            printing::explain_table(bytes, refusal, place);
+            printing::ended(1);
+        }
         Verdict::Accepted => {
             let table = read.table;
-            start(table, slots, firsts, stolen);
+            start(table, words, stolen);
         }
     }
 }
 
 // One byte more than a table may have is enough to see that there are too many.
-fn answer_file(slots: usize, firsts: List, stolen: &[u8]) {
-    let mut path = io::buffer();
-    let length = os::arg(1, &mut path);
-    let fd = os::open_read(&path[..length]);
-    if fd < 0 {
-        os::fail(&path[..length]);
-        return;
-    }
+fn answer_input(words: Words, stolen: &[u8]) {
     let mut bytes = [0u8; 4097];
-    let n = io::read_full(fd, &mut bytes);
-    libc::close(fd);
-    answer(&bytes[..n], slots, firsts, stolen);
+    let n = io::read_full(STDIN_FILENO, &mut bytes);
+    answer(&bytes[..n], words, stolen);
 }
 
-// The fourth word: STOLEN.
-fn with_stolen(count: usize, slots: usize, firsts: List) {
-    if count < 5 {
-        answer_file(slots, firsts, b".");
+fn wrong(word: usize) {
+    words::complain(word);
+    printing::ended(2);
+}
+
+// The pattern of stolen slots is its word, or no slot where there is none.
+fn main() {
+    let words = words::read();
+    if words.wrong != 0 {
+        wrong(words.wrong);
+        return;
+    }
+    if words.stolen == 0 {
+        answer_input(words, b".");
         return;
     }
     let mut word = io::buffer();
-    let n = os::arg(4, &mut word);
+    let n = os::arg(words.stolen, &mut word);
     if words::is_pattern(&word[..n]) {
-        answer_file(slots, firsts, &word[..n]);
+        answer_input(words, &word[..n]);
     } else {
-        words::usage(3);
-    }
-}
-
-// The third word: FIRSTS.
-fn with_firsts(count: usize, slots: usize) {
-    let firsts = words::firsts(count);
-    if firsts.good {
-        with_stolen(count, slots, firsts);
-    } else {
-        words::usage(2);
-    }
-}
-
-// The program's own name is the first of the `count` words.
-fn main() {
-    let count = os::arg_count();
-    if (count < 2) | (5 < count) {
-        words::usage(0);
-        return;
-    }
-    let slots = words::slots(count);
-    if slots == 0 {
-        words::usage(1);
-    } else {
-        with_firsts(count, slots);
+        wrong(3);
     }
 }

@@ -1,13 +1,16 @@
-// The run slot by slot: its chart and its tallies.
+// The run slot by slot: its chart, its tallies and its incidents.
 use super::chart;
+use super::incidents;
+use super::incidents::Incidents;
 use super::tallies;
 use super::tallies::Tallies;
 use rules::Run;
 
-// What is told of a run: its last state, the tallies, and how many slots were stolen.
-pub struct Told {
+// What is told of a run: its last state, the tallies, the incidents, and how many slots were stolen.
+pub(crate) struct Told {
     pub run: Run,
     pub tallies: Tallies,
+    pub incidents: Incidents,
     pub stolen: u32,
 }
 
@@ -39,30 +42,49 @@ fn counted(stolen: u32, taken: bool) -> u32 {
     }
 }
 
-// Runs the slots, one at a time, and draws the last ones.
+// Draws a slot, if the chart has begun.
+fn draw(
+    jobs: &mut [u8; 6400],
+    values: &mut [u8; 6400],
+    marks: &mut [u8; 100],
+    first: usize,
+    slot: usize,
+    taken: bool,
+    before: Run,
+    after: Run,
+) {
+    if first <= slot {
+        chart::mark(marks, slot - first, taken);
+        chart::draw(jobs, values, slot - first, before, after);
+    }
+}
+
+// Runs the slots, one at a time, notes who had each, and draws those from `first` on.
 pub(crate) fn run_through(
     run: Run,
     slots: usize,
+    first: usize,
     pattern: &[u8],
+    owners: &mut [u8; 1000000],
     jobs: &mut [u8; 6400],
     values: &mut [u8; 6400],
     marks: &mut [u8; 100],
 ) -> Told {
-    let first = chart::first_drawn(slots);
     let mut now = run;
     let mut all = tallies::no_tallies();
+    let mut stale = incidents::no_incidents();
     let mut stolen = 0;
     let mut at = 0;
     for k in 0..slots {
         let taken = is_stolen(pattern, at);
         let stepped = running::slot(now, taken);
         let after = stepped.run;
-        if first <= k {
-            chart::mark(marks, k - first, taken);
-            chart::draw(jobs, values, k - first, now, after);
-        }
+        incidents::note(owners, k, incidents::owner(now, after, taken));
+        draw(jobs, values, marks, first, k, taken, now, after);
         let more = tallies::tallied(all, now, after);
         all = more;
+        let longer = incidents::followed(stale, now, after);
+        stale = longer;
         now = after;
         stolen = counted(stolen, taken);
         at = place_after(at, pattern.len());
@@ -70,6 +92,7 @@ pub(crate) fn run_through(
     Told {
         run: now,
         tallies: all,
+        incidents: stale,
         stolen,
     }
 }

@@ -90,21 +90,43 @@ fn print_lacking(run: Run, all: Tallies, last: u32) {
     }
 }
 
-// The last sentence.
-fn print_end(run: Run, all: Tallies, slots: usize) {
-    let last = tallies::last_lacking(all, run.count);
-    if (last as usize) < slots {
-        printing::text(b"Every value was current from slot ");
-        printing::number(last as u64);
-        printing::text(b" on.\n");
-    } else {
-        printing::text(b"Not every value is current at the end:");
-        print_lacking(run, all, last);
-        printing::text(b".\n");
-    }
+// The pieces of the last lines.
+fn say(piece: usize, a: u64, b: u64, c: u64, d: u64) {
+    printing::filled(
+        b"oldest: the greatest age of a value; none, stale: slots that left no value yet, or a stale one; skipped: releases that came while a job was in hand\n\
+No value was ever stale; \n\
+Some values were stale (times: #, slots in all: #); \n\
+every value was current from slot # on.\n\
+not current at the end:\n",
+        piece,
+        a,
+        b,
+        c,
+        d,
+    );
 }
 
-pub(crate) fn print(run: Run, all: Tallies, slots: usize) {
+// The last line: whether any value was ever stale, and from when on all were current.
+pub(crate) fn print_end(run: Run, all: Tallies, slots: usize, incidents: usize) {
+    let last = tallies::last_lacking(all, run.count);
+    if incidents == 0 {
+        say(1, 0, 0, 0, 0);
+    } else {
+        let stale = tallies::stale_slots(all);
+        say(2, incidents as u64, stale, 0, 0);
+    }
+    if (last as usize) < slots {
+        say(3, last as u64, 0, 0, 0);
+    } else {
+        say(4, 0, 0, 0, 0);
+        print_lacking(run, all, last);
+        printing::byte(b'.');
+    }
+    printing::byte(b'\n');
+}
+
+pub(crate) fn print(run: Run, all: Tallies) {
     print_rows(run, all);
-    print_end(run, all, slots);
+    say(0, 0, 0, 0, 0);
+    printing::byte(b'\n');
 }

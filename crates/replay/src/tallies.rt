@@ -32,7 +32,7 @@ pub(crate) fn no_tallies() -> Tallies {
 }
 
 // The work at hand after step 1.
-fn work_at_hand(clock: u32, before: RunRow) -> u32
+pub(crate) fn work_at_hand(clock: u32, before: RunRow) -> u32
     ensures { λ r. ⌜ r ≡ releasedOf clock before .left ⌝ }
 {
     if before.next == clock {
@@ -44,7 +44,7 @@ fn work_at_hand(clock: u32, before: RunRow) -> u32
 }
 
 // The sample of the job at hand after step 1.
-fn sample_at_hand(clock: u32, before: RunRow) -> u32
+pub(crate) fn sample_at_hand(clock: u32, before: RunRow) -> u32
     ensures { λ r. ⌜ r ≡ releasedOf clock before .sample ⌝ }
 {
     if before.next == clock {
@@ -56,7 +56,7 @@ fn sample_at_hand(clock: u32, before: RunRow) -> u32
 }
 
 // Whether the object did a unit of work.
-fn ran(clock: u32, before: RunRow, after: RunRow) -> bool {
+pub(crate) fn ran(clock: u32, before: RunRow, after: RunRow) -> bool {
     work_at_hand(clock, before) != after.left
 }
 
@@ -144,6 +144,20 @@ pub(crate) fn tallied(tallies: Tallies, before: Run, after: Run) -> Tallies {
         }
     }
     Tallies { rows }
+}
+
+// How many slots left some object with a stale value, counted for each object.
+pub(crate) fn stale_slots(tallies: Tallies) -> u64 {
+    let rows = tallies.rows;
+    let mut sum: u64 = 0;
+    for i in 0..64usize {
+        sum = std::num::wrapping_add_u64(sum, wide(rows[i].stale));
+    }
+    sum
+}
+
+pub(crate) fn wide(x: u32) -> u64 {
+    x as u64
 }
 
 // The instant after the last slot that left some object with no value or a stale one.

@@ -1,6 +1,5 @@
-// The words of the command: FILE, SLOTS, FIRSTS and STOLEN, and what is said of wrong ones, on standard error.
+// The words of the command: --slots, --first, --stolen and --from, each with its value, and what is said of wrong ones, on standard error.
 ghost use Prim.Native.Nat.{_≤_};
-use libc::STDERR_FILENO;
 use rules::Started;
 use rules::Table;
 
@@ -95,41 +94,134 @@ fn listed(bytes: &[u8]) -> List {
     closed(list)
 }
 
-// SLOTS, 60 where it is not given; 0 where it is not a number from 1 to 1,000,000.
-pub(crate) fn slots(count: usize) -> usize
-    ensures { λ r. ⌜ r ≤ 1000000 ⌝ }
-{
-    if count < 3 {
-        return 60;
-    }
-    let mut word = [0u8; 32];
-    let n = os::arg(2, &mut word);
-    let list = listed(&word[..n]);
-    slots_of(list)
-}
-
-// The number of a list of one, where that is at most 1,000,000.
-fn slots_of(list: List) -> usize
-    ensures { λ r. ⌜ r ≤ 1000000 ⌝ }
+// The number of a list of one, where that is at most 1,000,000; otherwise 1,000,001.
+fn only(list: List) -> usize
+    ensures { λ r. ⌜ r ≤ 1000001 ⌝ }
 {
     let numbers = list.numbers;
-    let slots = numbers[0];
-    if slots <= 1000000 {
+    let number = numbers[0];
+    if number <= 1000000 {
         if list.good & (list.count == 1) {
-            return slots as usize;
+            return number as usize;
         }
     }
-    0
+    1000001
 }
 
-// FIRSTS, a single 0 where it is not given.
-pub(crate) fn firsts(count: usize) -> List {
-    if count < 4 {
-        return listed(b"0");
+// The words as they are meant: how many slots, where the chart begins (1,000,001: so that it ends with the run), the first releases, which word
+// is the pattern of stolen slots (0: none), and which of --slots, --first, --stolen, --from and the names is wrong, 1 to 5 (0: none).
+pub(crate) struct Words {
+    pub slots: usize,
+    pub from: usize,
+    pub firsts: List,
+    pub stolen: usize,
+    pub wrong: usize,
+}
+
+fn no_words() -> Words {
+    let firsts = listed(b"0");
+    Words {
+        slots: 60,
+        from: 1000001,
+        firsts,
+        stolen: 0,
+        wrong: 0,
     }
-    let mut word = [0u8; 1024];
-    let n = os::arg(3, &mut word);
-    listed(&word[..n])
+}
+
+// Whether two words are the same.
+fn same(word: &[u8], name: &[u8]) -> bool {
+    if word.len() != name.len() {
+        return false;
+    }
+    for i in 0..word.len() {
+        if word[i] != name[i] {
+            return false;
+        }
+    }
+    true
+}
+
+// Which name a word is, 1 to 4; 5 where it is none.
+fn named(word: &[u8]) -> usize {
+    if same(word, b"--slots") {
+        1
+    } else if same(word, b"--first") {
+        2
+    } else if same(word, b"--stolen") {
+        3
+    } else if same(word, b"--from") {
+        4
+    } else {
+        5
+    }
+}
+
+// The words with the number of --slots or --from.
+fn with_number(words: Words, name: usize, number: usize) -> Words {
+    let mut next = words;
+    if name == 4 {
+        next.from = number;
+        if 1000000 < number {
+            next.wrong = 4;
+        }
+    } else {
+        next.slots = number;
+        if (number == 0) | (1000000 < number) {
+            next.wrong = 1;
+        }
+    }
+    next
+}
+
+// The words with the list of --first.
+fn with_firsts(words: Words, firsts: List) -> Words {
+    let mut next = words;
+    next.firsts = firsts;
+    if !firsts.good {
+        next.wrong = 2;
+    }
+    next
+}
+
+// The words with the one at `at` and its value behind it.
+fn with_word(words: Words, at: usize) -> Words {
+    let mut name = [0u8; 16];
+    let n = os::arg(at, &mut name);
+    let behind = std::num::wrapping_add_usize(at, 1);
+    let mut value = [0u8; 1024];
+    let size = os::arg(behind, &mut value);
+    let which = named(&name[..n]);
+    let list = listed(&value[..size]);
+    let mut next = words;
+    match which {
+        1 | 4 => with_number(words, which, only(list)),
+        2 => with_firsts(words, list),
+        3 => {
+            next.stolen = behind;
+            next
+        }
+        _ => {
+            next.wrong = 5;
+            next
+        }
+    }
+}
+
+// All words; the program's own name is the first of them. No more than 16 names are looked at.
+pub(crate) fn read() -> Words {
+    let count = os::arg_count();
+    let mut words = no_words();
+    for k in 0..16usize {
+        if 2 * k + 1 < count {
+            let more = with_word(words, 2 * k + 1);
+            words = more;
+        }
+    }
+    if 33 < count {
+        words.wrong = 5;
+    }
+    words
 }
 
 // Whether the word is a pattern of '.' and 'x'.
@@ -166,23 +258,15 @@ pub(crate) fn started(table: Table, firsts: List) -> Started {
     started_with(table, &numbers, meant(firsts, table.count))
 }
 
-// What the words are, with a first line that says which of them is wrong; 0 where none is.
-pub(crate) fn usage(wrong: usize) {
-    if wrong != 0 {
-        printing::line_to_stderr(
-            b"\n\
-replay: SLOTS is not a number from 1 to 1000000\n\
-replay: FIRSTS is not a list of numbers separated by commas\n\
-replay: STOLEN is not a pattern of . and x\n",
-            wrong,
-        );
-    }
-    io::write_all(
-        STDERR_FILENO,
-        b"usage: replay FILE [SLOTS] [FIRSTS] [STOLEN]\n\
-\x20 FILE    a stored table\n\
-\x20 SLOTS   how many slots to run: 1 to 1000000, 60 if not given\n\
-\x20 FIRSTS  first releases in priority order, as 2,1,0; 0 for all zero, also if not given\n\
-\x20 STOLEN  which slots are stolen, over and over: . ours, x stolen, as xxx.\n",
+// What is said of a wrong word, by its number in `Words`.
+pub(crate) fn complain(wrong: usize) {
+    printing::complain(
+        b"\n\
+replay: --slots is not a number from 1 to 1000000\n\
+replay: --first is not a list of numbers separated by commas, as 2,1,0\n\
+replay: --stolen is not a pattern of . and x, as xxx.\n\
+replay: --from is not a number from 0 to 1000000\n\
+replay: the words are --slots N, --first LIST, --stolen PATTERN and --from SLOT\n",
+        wrong,
     );
 }

@@ -5,15 +5,15 @@ use std::fmt::{self, Debug, Formatter};
 /// The rows of a table, a plan and a run: CHANNELFOX_ROWS.
 pub const ROWS: usize = 64;
 
-/// How a stored value is told: CHANNELFOX_NONE, CHANNELFOX_HELD and CHANNELFOX_LAPSED.
+/// How a stored value is told: CHANNELFOX_STORED_NONE, _HELD and _LAPSED.
 pub const NONE: u32 = 0;
 pub const HELD: u32 = 1;
 pub const LAPSED: u32 = 2;
 
-/// How a reading is told: CHANNELFOX_NEVER, CHANNELFOX_STALE and CHANNELFOX_FRESH.
-pub const NEVER: u32 = 0;
-pub const STALE: u32 = 1;
-pub const FRESH: u32 = 2;
+/// How a reading is told: CHANNELFOX_READING_NONE, _STALE and _FRESH; 0 where it is refused.
+pub const NEVER: u32 = 3;
+pub const STALE: u32 = 4;
+pub const FRESH: u32 = 5;
 
 /// The source of a part: the site bytes or the factory bytes.
 pub const SITE: u32 = 1;

@@ -1,22 +1,33 @@
 -- `replay::story::run_through` ends after its slots. Assumes nothing.
-use Prim.Native.Nat.{_≤_, _-_}
+use Prim.Native.Nat.{_-_, _≤_}
 use borrow.Author.Needs.{needs}
 use Rattle.replay.proofs.story.run_through.Statement.{statement}
 use Rattle.replay.proofs.story.run_through.Tie as tie
+use Rattle.replay.proofs.story.run_through.Reads as reads
+use Rattle.replay.proofs.story.run_through.Lts as lts
+use Rattle.replay.proofs.incidents.followed.Reads as followed-reads
+use Rattle.replay.proofs.incidents.no_incidents.Reads as no-incidents-reads
+use Rattle.replay.proofs.incidents.note.Reads as note-reads
+use Rattle.replay.proofs.incidents.owner.Reads as owner-reads
+use Rattle.replay.proofs.story.counted.Reads as counted-reads
+use Rattle.replay.proofs.story.draw.Reads as draw-reads
+use Rattle.replay.proofs.story.is_stolen.Reads as is-stolen-reads
+use Rattle.replay.proofs.story.place_after.Reads as place-after-reads
+use Rattle.replay.proofs.tallies.no_tallies.Reads as no-tallies-reads
+use Rattle.replay.proofs.tallies.tallied.Reads as tallied-reads
+use Rattle.running.proofs.slot.Reads as slot-reads
 
 abbrev Inv-loop : tie.InvT-loop
-Inv-loop slots pattern jobs₀ values₀ marks₀ first now₀ all₀ stolen₀ at₀ k₀ jobs values marks now all stolen at k =
-    k ≤ slots
+Inv-loop slots first pattern owners₀ jobs₀ values₀ marks₀ now₀ all₀ stale₀ stolen₀ at₀ k₀ owners jobs values marks now all stale stolen at k = k ≤ slots
 
 abbrev μ-loop : tie.MeasureT-loop
-μ-loop slots pattern jobs₀ values₀ marks₀ first now₀ all₀ stolen₀ at₀ k₀ jobs values marks now all stolen at k =
-    slots - k
-
-first-drawn-requires : tie.Need-first-drawn-requires Inv-loop μ-loop
-first-drawn-requires c κs = search needs
+μ-loop slots first pattern owners₀ jobs₀ values₀ marks₀ now₀ all₀ stale₀ stolen₀ at₀ k₀ owners jobs values marks now all stale stolen at k = slots - k
 
 no-tallies-requires : tie.Need-no-tallies-requires Inv-loop μ-loop
 no-tallies-requires c κs = search needs
+
+no-incidents-requires : tie.Need-no-incidents-requires Inv-loop μ-loop
+no-incidents-requires c κs = search needs
 
 loop-holds : tie.Need-loop-holds Inv-loop μ-loop
 loop-holds c = search needs
@@ -27,14 +38,20 @@ is-stolen-requires c κs = search needs
 slot-requires : tie.Need-slot-requires Inv-loop μ-loop
 slot-requires c κs = search needs
 
-mark-requires : tie.Need-mark-requires Inv-loop μ-loop
-mark-requires c κs = search needs
+owner-requires : tie.Need-owner-requires Inv-loop μ-loop
+owner-requires c κs = search needs
+
+note-requires : tie.Need-note-requires Inv-loop μ-loop
+note-requires c κs = search needs
 
 draw-requires : tie.Need-draw-requires Inv-loop μ-loop
 draw-requires c κs = search needs
 
 tallied-requires : tie.Need-tallied-requires Inv-loop μ-loop
 tallied-requires c κs = search needs
+
+followed-requires : tie.Need-followed-requires Inv-loop μ-loop
+followed-requires c κs = search needs
 
 counted-requires : tie.Need-counted-requires Inv-loop μ-loop
 counted-requires c κs = search needs
@@ -43,7 +60,11 @@ place-after-requires : tie.Need-place-after-requires Inv-loop μ-loop
 place-after-requires c κs = search needs
 
 add-k : tie.Need-add-k Inv-loop μ-loop
-add-k c = search needs
+add-k c =
+    let l = c .before .before .before .before .before .before .before .before .before .before .before .before .before .before in
+    let small = l .before .before .before .before .before .fits .slots in
+    let below = l .loop-test .taken in
+    search (needs, small, below)
 
 loop-less : tie.Need-loop-less Inv-loop μ-loop
 loop-less c = search needs
@@ -60,14 +81,16 @@ run-through-spec =
     (tie.spec
     Inv-loop
     μ-loop
-    first-drawn-requires
     no-tallies-requires
+    no-incidents-requires
     loop-holds
     is-stolen-requires
     slot-requires
-    mark-requires
+    owner-requires
+    note-requires
     draw-requires
     tallied-requires
+    followed-requires
     counted-requires
     place-after-requires
     add-k

@@ -1,0 +1,53 @@
+-- `diagnosis::sheet::line_start` meets its contract. Assumes nothing.
+use Prim.Native.Nat.{_-_, _≤_}
+use lib.ListN.{length}
+use borrow.Author.Needs.{needs}
+use Rattle.diagnosis.proofs.sheet.line_start.Statement.{statement}
+use Rattle.diagnosis.proofs.sheet.line_start.Tie as tie
+use Rattle.diagnosis.proofs.sheet.line_start.Reads as reads
+use Rattle.diagnosis.proofs.sheet.line_start.Lts as lts
+
+abbrev Inv-loop : tie.InvT-loop
+Inv-loop bytes line left₀ at₀ left at = at ≤ length bytes
+
+abbrev μ-loop : tie.MeasureT-loop
+μ-loop bytes line left₀ at₀ left at = length bytes - at
+
+loop-holds : tie.Need-loop-holds Inv-loop μ-loop
+loop-holds c = search needs
+
+returns : tie.Need-returns Inv-loop μ-loop
+returns c = search needs
+
+shared-slice-read-if2 : tie.Need-shared-slice-read-if2 Inv-loop μ-loop
+shared-slice-read-if2 c = search needs
+
+sub-left : tie.Need-sub-left Inv-loop μ-loop
+sub-left c = search needs
+
+add-at : tie.Need-add-at Inv-loop μ-loop
+add-at c = search needs
+
+loop-less : tie.Need-loop-less Inv-loop μ-loop
+loop-less c = search needs
+
+loop-again : tie.Need-loop-again Inv-loop μ-loop
+loop-again c = search needs
+
+returns-2 : tie.Need-returns-2 Inv-loop μ-loop
+returns-2 c = search needs
+
+pub line-start-spec : {M : Type 1} → statement M
+line-start-spec =
+    tie.close
+    (tie.spec
+    Inv-loop
+    μ-loop
+    loop-holds
+    returns
+    shared-slice-read-if2
+    sub-left
+    add-at
+    loop-less
+    loop-again
+    returns-2)

@@ -1,0 +1,16 @@
+/* The header by itself: its version, a text for each refusal, and numbers of readings that are no kinds of stored values. */
+#include "channelfox.h"
+#include <stdio.h>
+
+int main(void) {
+    static const int stored[] = {CHANNELFOX_STORED_NONE, CHANNELFOX_STORED_HELD, CHANNELFOX_STORED_LAPSED};
+    static const int readings[] = {CHANNELFOX_READING_NONE, CHANNELFOX_READING_STALE, CHANNELFOX_READING_FRESH};
+    for (int i = 0; i < 3; i++)
+        for (int k = 0; k < 3; k++)
+            if (stored[i] == readings[k])
+                printf("stored %d is a reading\n", stored[i]);
+    printf("%s\n", CHANNELFOX_VERSION);
+    for (unsigned number = 0; number <= 18; number++)
+        printf("%u %s\n", number, channelfox_refusal_text(number));
+    return 0;
+}

@@ -9,8 +9,8 @@ use Rattle.rules.specs.declared.Run.{Run}
 use Rattle.rules.specs.declared.Stepped.{Stepped}
 use Rattle.rules.specs.RunState.{acceptable}
 use Rattle.rules.specs.Run.{slotOf, notRunState, stepped, steppedOf, isStolen, slotsOf, advancedOf}
-use Rattle.promises.specs.Encode.{runAfter, Fits}
-use Rattle.promises.specs.NeverRefused.{slot-keeps, slot-fits}
+use Rattle.promises.specs.Runs.{runAfter, Fits}
+use Rattle.promises.specs.Decode.{slot-keeps}
 
 -- a call: one slot, with whether it is stolen, or many, with a byte for each
 pub data Call : Type 0 where
@@ -70,7 +70,7 @@ abbrev Good : Run → Type 0
 Good run = Fits run × (acceptable run ≡ true)
 
 slot-good : (run : Run) (stolen : Bool) → Good run → Good (slotOf run stolen)
-slot-good run stolen g = (slot-fits run stolen (g .0) (g .1), slot-keeps run stolen (g .0) (g .1))
+slot-good run stolen g = slot-keeps run (g .0) (g .1) stolen
 
 slots-good : (run : Run) (bytes : List ℕ) → Good run → Good (slotsOf run bytes)
 unfolding slotsOf

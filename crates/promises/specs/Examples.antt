@@ -1,6 +1,6 @@
 -- Document 01, "Numbers to hold against it": its runs, computed by one statement over a table of them, and demand 3 put to use on two.
 -- Assumes nothing: the definitions are computed.
-use Prim.Native.Nat.{ℕ, zero, suc, _≤_, _<_}
+use Prim.Native.Nat.{ℕ, zero, suc, _+_, _≤_, _<_}
 use mathlib.Core.Path.{_≡_, refl, _∙_}
 use mathlib.Core.Bool.{Bool, false, cond}
 use mathlib.Core.List.{List, [], _∷_, map}
@@ -16,17 +16,20 @@ use Rattle.rules.specs.declared.Reading.{Reading}
 use Rattle.rules.specs.declared.Reading.the-variants.{Never, Stale, Fresh}
 use Rattle.rules.specs.StoredTable.{tableOf}
 use Rattle.rules.specs.RunState.{usedRows, rowOk, rowNone, every, notIn, distinct, acceptable}
-use Rattle.rules.specs.Run.{startOf, releasedOf, stepOne, servedOf, serveFirst, agedOf, slotOf, isStolen, slotsOf, advancedOf, readFrom, readingOf}
+use Rattle.rules.specs.Run.{startOf, releasedOf, stepOne, servedOf, serveFirst, agedOf, slotOf, isStolen, slotsOf, advancedOf}
+use Rattle.rules.specs.Run.{readFrom, readingOf}
 use Rattle.rules.specs.Numbers.{row}
-use Rattle.promises.specs.History.{Object, State, objectsIn, history, trueAge}
-use Rattle.promises.specs.Encode.{runAfter, runRow, NothingLeft}
+use Rattle.theory.specs.Model.{State, history}
+use Rattle.theory.specs.Start.{starts}
+use Rattle.promises.specs.Runs.{runAfter, runRow, NothingLeft, RunObject, trueAge}
+use Rattle.promises.specs.Encode.{startCourse}
 use Rattle.promises.specs.Calls.{slotFlags, stolenBy}
 use Rattle.promises.specs.Calls.Call.{manySlots}
 use Rattle.promises.specs.Promises.{Promised, runOf}
 use Rattle.promises.specs.Kept.{kept}
 
 -- a table that is started, and a byte for each slot: 0, or 1 where it is stolen
-pub record Course : Type 0 where
+pub record Given : Type 0 where
   pub rows : List ObjectRow
   pub clock : ℕ
   pub firsts : List ℕ
@@ -51,17 +54,17 @@ abbrev wentTo : Run → List ℕ → List ℕ
 wentTo run [] = []
 wentTo run (s ∷ ss) = cond (isStolen s) 0 (firstWork (stepOne (run .clock) (usedRows run))) ∷ wentTo (slotOf run (isStolen s)) ss
 
-abbrev seen : Course → Seen
+abbrev seen : Given → Seen
 seen c =
     let table = tableOf (c .rows) in
     let from = startOf table (c .clock) (c .firsts) .run in
     let run = advancedOf from (c .slots) .run in
-    let states = history (objectsIn table (c .firsts)) (stolenBy (manySlots (c .slots) ∷ [])) (length (c .slots)) in
+    let states = history (startCourse table (c .clock) (c .firsts) (stolenBy (manySlots (c .slots) ∷ []))) (length (c .slots)) in
     record {
       clock = run .clock;
       went = wentTo from (c .slots);
       readings = map (λ (r : RunRow). readingOf run (r .planned .id)) (usedRows run);
-      ages = map (λ (w : State). trueAge (length (c .slots)) (w .value)) states;
+      ages = map (λ (w : State). trueAge (c .clock + length (c .slots)) (w .value)) states;
       lefts = map (λ (r : RunRow). r .left) (usedRows run);
       skips = map (λ (r : RunRow). r .skips) (usedRows run);
     }
@@ -71,14 +74,14 @@ abbrev figure-2 : List ObjectRow
 figure-2 = row 1 2 8 ∷ row 2 2 10 ∷ row 3 2 12 ∷ []
 
 pub record Case : Type 0 where
-  pub course : Course
+  pub given : Given
   pub answer : Seen
 
 abbrev pub table : List Case
 table =
     -- 002's set with first releases 2, 1, 0: slots go to objects 3, 2, 1, 1, 2, 3, and instant 6 has nothing left over
     record {
-      course = record { rows = figure-2; clock = 0; firsts = 2 ∷ 1 ∷ 0 ∷ []; slots = 0 ∷ 0 ∷ 0 ∷ 0 ∷ 0 ∷ 0 ∷ [] };
+      given = record { rows = figure-2; clock = 0; firsts = 2 ∷ 1 ∷ 0 ∷ []; slots = 0 ∷ 0 ∷ 0 ∷ 0 ∷ 0 ∷ 0 ∷ [] };
       answer = record {
         clock = 6;
         went = 3 ∷ 2 ∷ 1 ∷ 1 ∷ 2 ∷ 3 ∷ [];
@@ -90,35 +93,35 @@ table =
     }
     -- (1,2), first release 0, slots 0 to 2 stolen: three skips, at 1, 2 and 3; the slot 3 ends the job of instant 0
     ∷ record {
-      course = record { rows = row 1 1 2 ∷ []; clock = 0; firsts = 0 ∷ []; slots = 1 ∷ [] };
+      given = record { rows = row 1 1 2 ∷ []; clock = 0; firsts = 0 ∷ []; slots = 1 ∷ [] };
       answer = record { clock = 1; went = 0 ∷ []; readings = Never ∷ []; ages = none ∷ []; lefts = 1 ∷ []; skips = 0 ∷ [] };
     }
     ∷ record {
-      course = record { rows = row 1 1 2 ∷ []; clock = 0; firsts = 0 ∷ []; slots = 1 ∷ 1 ∷ [] };
+      given = record { rows = row 1 1 2 ∷ []; clock = 0; firsts = 0 ∷ []; slots = 1 ∷ 1 ∷ [] };
       answer = record { clock = 2; went = 0 ∷ 0 ∷ []; readings = Never ∷ []; ages = none ∷ []; lefts = 1 ∷ []; skips = 1 ∷ [] };
     }
     ∷ record {
-      course = record { rows = row 1 1 2 ∷ []; clock = 0; firsts = 0 ∷ []; slots = 1 ∷ 1 ∷ 1 ∷ [] };
+      given = record { rows = row 1 1 2 ∷ []; clock = 0; firsts = 0 ∷ []; slots = 1 ∷ 1 ∷ 1 ∷ [] };
       answer = record { clock = 3; went = 0 ∷ 0 ∷ 0 ∷ []; readings = Never ∷ []; ages = none ∷ []; lefts = 1 ∷ []; skips = 2 ∷ [] };
     }
     -- at instant 4 the stored value is stale and nothing is left over; at 5 it is fresh, age 1
     ∷ record {
-      course = record { rows = row 1 1 2 ∷ []; clock = 0; firsts = 0 ∷ []; slots = 1 ∷ 1 ∷ 1 ∷ 0 ∷ [] };
+      given = record { rows = row 1 1 2 ∷ []; clock = 0; firsts = 0 ∷ []; slots = 1 ∷ 1 ∷ 1 ∷ 0 ∷ [] };
       answer = record { clock = 4; went = 0 ∷ 0 ∷ 0 ∷ 1 ∷ []; readings = Stale ∷ []; ages = some 4 ∷ []; lefts = 0 ∷ []; skips = 3 ∷ [] };
     }
     ∷ record {
-      course = record { rows = row 1 1 2 ∷ []; clock = 0; firsts = 0 ∷ []; slots = 1 ∷ 1 ∷ 1 ∷ 0 ∷ 0 ∷ [] };
+      given = record { rows = row 1 1 2 ∷ []; clock = 0; firsts = 0 ∷ []; slots = 1 ∷ 1 ∷ 1 ∷ 0 ∷ 0 ∷ [] };
       answer = record { clock = 5; went = 0 ∷ 0 ∷ 0 ∷ 1 ∷ 1 ∷ []; readings = Fresh 1 ∷ []; ages = some 1 ∷ []; lefts = 0 ∷ []; skips = 3 ∷ [] };
     }
     -- (1,4) started at clock 4,294,967,295, first release 0: after one slot, clock 0, fresh, age 1
     ∷ record {
-      course = record { rows = row 1 1 4 ∷ []; clock = 4294967295; firsts = 0 ∷ []; slots = 0 ∷ [] };
+      given = record { rows = row 1 1 4 ∷ []; clock = 4294967295; firsts = 0 ∷ []; slots = 0 ∷ [] };
       answer = record { clock = 0; went = 1 ∷ []; readings = Fresh 1 ∷ []; ages = some 1 ∷ []; lefts = 0 ∷ []; skips = 0 ∷ [] };
     }
     ∷ []
 
-pub right : map (λ (c : Case). seen (c .course)) table ≡ map (λ (c : Case). c .answer) table
-unfolding releasedOf servedOf serveFirst agedOf slotOf slotsOf advancedOf readFrom readingOf acceptable rowOk rowNone every notIn distinct history slotFlags
+pub right : map (λ (c : Case). seen (c .given)) table ≡ map (λ (c : Case). c .answer) table
+unfolding releasedOf servedOf serveFirst agedOf slotOf slotsOf advancedOf readFrom readingOf acceptable rowOk rowNone every notIn distinct history starts slotFlags
 right = refl
 
 -- ── Demand 3 put to use ──
@@ -156,7 +159,7 @@ stolen-rests zero h = refl
 stolen-rests (suc i) h = absurd (omega arith)
 
 -- so from instant 4 on all is promised that demand 3 promises
-abbrev only-object : Object
+abbrev only-object : RunObject
 only-object = record { plan = record { id = 1; cost = 1; validity = 2; deadline = 1; period = 1 }; first = 0 }
 
 pub promised-again : (e : ℕ) → Promised stolen-run 0 only-object 4 e

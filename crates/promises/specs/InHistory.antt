@@ -1,40 +1,84 @@
--- Demand 3 in true time, over the history of slots: once for any number of planned objects.
--- Assumes that the rows are planned and that first releases are below their periods.
-use Prim.Native.Nat.{ℕ, suc, _+_, _≤_}
-use mathlib.Core.Path.{_≡_}
-use mathlib.Core.Bool.{Bool}
-use mathlib.Core.List.{List}
-use mathlib.Core.Option.{some}
+-- Rows that the rules call planned are planned in the theory: its words for plans mean the same. So demand 3 holds in true time.
+-- Assumes planned rows, and acceptable states at the beginning.
+use Prim.Native.Nat.{ℕ, zero, suc, _+_, _≤_, _<_}
+use mathlib.Core.Path.{_≡_, refl, ap, _∙_}
+use mathlib.Core.List.{List, [], _∷_, map}
 use native.Mathlib.Omega.{arith}
-use lib.ListN.{getElem?}
-use Rattle.rules.proofs.Lists.{standing}
-use Rattle.promises.specs.History.{Object, noObject, release, history, object, state, Unstolen, Quiet, FreshAt}
-use Rattle.promises.specs.Sampled.{IsRelease}
-use Rattle.promises.specs.InTime.{Planned, quiet-take, deadlines, no-skips, freshness}
+use lib.ListN.{length, take, drop, getD, length-map}
+use Rattle.rules.specs.declared.PlanRow.{PlanRow}
+use Rattle.rules.specs.Deadlines.{noPlanRow}
+use Rattle.rules.specs.Deadlines as rules
+use Rattle.theory.specs.Model.{Object, object, at, Course, history, state, plansOf, planAt, Quiet, FreshAt, Unstolen, Acceptable}
+use Rattle.theory.specs.Model.{windowOf, holdBehind, needOf, Planned}
+use Rattle.theory.specs.Track.{objects-length, objects-at}
+use Rattle.theory.specs.Releases.{ReleaseOf}
+use Rattle.theory.specs.InTime.{Kept}
+use Rattle.theory.specs.Plans.{balanced-meets}
+use Rattle.theory.specs.Theorems.{in-time, none-skipped, always-fresh}
+use Rattle.promises.specs.Plans.{PlannedRows}
+use Rattle.promises.specs.Sound.{planned-sound}
+use Rattle.promises.specs.Encode.{objectOf}
+use Rattle.promises.specs.Tie.{object-at}
 
--- what the object o at place i is promised in the history, from the instant b to the instant e
-pub record KeptInHistory (os : List Object) (stolen : ℕ → Bool) (i : ℕ) (o : Object) (b e : ℕ) : Type 0 where
-  -- at each release nothing is left of the job before, and step 1 begins one, sampled at the release
-  pub begins : (r : ℕ) → IsRelease o r → b ≤ r → r ≤ e
-      → (state os stolen i r .left ≡ 0) × (release r o (state os stolen i r) .left ≡ o .plan .cost)
-      × (release r o (state os stolen i r) .sample ≡ r)
-  -- from its deadline to the next release nothing is left of it, and its value is stored
-  pub in-time : (r : ℕ) → IsRelease o r → b ≤ r → (t : ℕ) → r + o .plan .deadline ≤ t → t ≤ r + o .plan .period → t ≤ e
-      → (state os stolen i t .left ≡ 0) × (state os stolen i t .value ≡ some r)
+-- ── One word for one thing ──
+
+-- `ceiling` and `brings` are the same by their definitions; so is what t slots can bring, and with it what an object needs
+pub window-same : (ps : List PlanRow) (t : ℕ) → windowOf (map objectOf ps) t ≡ rules.windowOf ps t
+unfolding windowOf
+window-same [] t = refl
+window-same (p ∷ ps) t = ap (λ n. rules.brings t p + n) (window-same ps t)
+
+-- nothing but one unit is held
+none-held : (ps : List PlanRow) → holdBehind (map objectOf ps) ≡ 0
+unfolding holdBehind
+none-held [] = refl
+none-held (p ∷ ps) = omega (arith, none-held ps)
+
+take-objects : (i : ℕ) (ps : List PlanRow) → take i (map objectOf ps) ≡ map objectOf (take i ps)
+take-objects zero ps = refl
+take-objects (suc i) [] = refl
+take-objects (suc i) (p ∷ ps) = ap {B = List Object} (λ os. objectOf p ∷ os) (take-objects i ps)
+
+drop-objects : (i : ℕ) (ps : List PlanRow) → drop i (map objectOf ps) ≡ map objectOf (drop i ps)
+drop-objects zero ps = refl
+drop-objects (suc i) [] = refl
+drop-objects (suc i) (p ∷ ps) = drop-objects i ps
+
+pub planned-objects : (ps : List PlanRow) → PlannedRows ps → Planned (map objectOf ps)
+planned-objects ps pl i h =
+    let l : i < length ps = rw (length-map ps objectOf) at h in
+    let p = getD ps i noPlanRow in
+    let ahead = take i ps in
+    let behind = drop (suc i) ps in
+    let m = pl i l in
+    let s = planned-sound ahead p m in
+    let balances : needOf (map objectOf ahead) (p .cost + holdBehind (map objectOf behind)) (p .deadline) ≡ p .deadline =
+    omega (arith, window-same ahead (p .deadline), none-held behind, m .balances) in
+    rw (object-at ps i l, take-objects i ps, drop-objects (suc i) ps)
+    (balanced-meets (map objectOf ahead) (map objectOf behind) (objectOf p) (m .cost-pos) (s .within) (p .deadline) balances (omega arith))
+
+-- ── Demand 3 in true time ──
+
+-- what the object at place i is promised in the history, from the slot b to the slot e
+pub record KeptInHistory (c : Course) (i b e : ℕ) : Type 0 where
+  -- at each release nothing is left of the job before, step 1 begins one, and from its deadline to the next release nothing is left of it,
+  -- and its value is stored
+  pub each-release : (r : ℕ) → ReleaseOf (at (c .begin) i) (c .from + r) → b ≤ r → r ≤ e → Kept c i r e
   -- none is skipped
-  pub no-skip : (t : ℕ) → b ≤ t → t ≤ e → state os stolen i t .skips ≡ state os stolen i b .skips
+  pub no-skip : (t : ℕ) → b ≤ t → t ≤ e → state c i t .skips ≡ state c i b .skips
   -- from one validity on, there is a stored value whose true age is below the validity
-  pub fresh : (t : ℕ) → b + o .plan .validity ≤ t → t ≤ e → FreshAt (state os stolen i t) t (o .plan .validity)
+  pub fresh : (t : ℕ) → b + planAt c i .validity ≤ t → t ≤ e → FreshAt (state c i t) (c .from + t) (planAt c i .validity)
 
-pub kept-in-history : (os : List Object) (stolen : ℕ → Bool) → Planned os → (b e : ℕ) → Quiet (history os stolen b) → Unstolen stolen b e
-    → (i : ℕ) (o : Object) → getElem? os i ≡ some o → KeptInHistory os stolen i o b e
-kept-in-history os stolen pl b e q given i o place =
-    let s = standing noObject os i o place in
-    let ahead = quiet-take (suc i) os stolen b q in
-    let kept : KeptInHistory os stolen i (object os i) b e = record {
-      begins = λ r x l u. (let m = deadlines os stolen pl i (s .0) b e given ahead (x .0) r (x .1) l u in (m .clear, m .begun, m .sampled));
-      in-time = λ r x l t p y u. deadlines os stolen pl i (s .0) b e given ahead (x .0) r (x .1) l (omega arith) .done t p y u;
-      no-skip = no-skips os stolen pl i (s .0) b e given ahead;
-      fresh = freshness os stolen pl i (s .0) b e given ahead;
-    } in
-    rw (s .1) at kept
+pub kept-in-history : (c : Course) (ps : List PlanRow) → plansOf c ≡ map objectOf ps → PlannedRows ps → Acceptable (c .from) (c .begin)
+    → (b e : ℕ) → Quiet (history c b) → Unstolen (c .stolen) b e → (i : ℕ) → i < length ps → KeptInHistory c i b e
+kept-in-history c ps same pl ok b e q given i h =
+    let planned : Planned (plansOf c) = rw same (planned-objects ps pl) in
+    let l : i < length (c .begin) = rw (← objects-length (c .begin), same, length-map ps objectOf) h in
+    let is : planAt c i ≡ objectOf (getD ps i noPlanRow) =
+    objects-at (c .begin) i l ∙ (ap (λ (os : List Object). object os i) same ∙ object-at ps i h) in
+    let s = planned-sound _ _ (pl i h) in
+    record {
+      each-release = in-time c ok planned i l b e given q;
+      no-skip = none-skipped c ok planned i l b e given q;
+      fresh = always-fresh c ok planned i l b e given q (rw is (omega (arith, s .sums)));
+    }

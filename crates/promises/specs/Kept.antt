@@ -14,13 +14,12 @@ use Rattle.promises.specs.OnlyOrder.{order-is, only-order}
 use Rattle.promises.specs.PlanExactly.{each-planned, planned-or-10, ten-exactly}
 use Rattle.promises.specs.StartExactly.{start-exactly}
 use Rattle.promises.specs.ReadExactly.{reads-13-exactly, reads-14-exactly}
-use Rattle.promises.specs.Encode.{Fits}
+use Rattle.promises.specs.Runs.{Fits}
 use Rattle.promises.specs.Slots.{slot-used}
-use Rattle.promises.specs.NeverRefused.{accept-size, slot-keeps, slot-fits}
+use Rattle.promises.specs.Decode.{accept-size, any-history, slot-keeps}
 use Rattle.promises.specs.Calls.{calls-are-slots}
-use Rattle.promises.specs.AlwaysDue.{row-due}
 use Rattle.promises.specs.InHistory.{kept-in-history}
-use Rattle.promises.specs.FromRest.{row-promised}
+use Rattle.promises.specs.FromAny.{row-due, row-reads, row-promised}
 use Rattle.promises.specs.Starts.{start-history, start-accepted, start-every-run, start-promised}
 use Rattle.promises.specs.SameAhead.{same-tables}
 use Rattle.promises.specs.Promises.{OfTable, OfStart, OfRun, Promises}
@@ -47,10 +46,12 @@ of-start table clock firsts accepted low = record {
 of-run : (run : Run) → Fits run → acceptable run ≡ true → OfRun run
 unfolding steppedOf
 of-run run w ok = record {
-  slot = λ stolen. (rw ok, slot-used run stolen (accept-size run w ok), slot-fits run stolen w ok, slot-keeps run stolen w ok);
+  slot = λ stolen. let s = slot-keeps run w ok stolen in (rw ok, slot-used run stolen (accept-size run w ok), s .0, s .1);
   calls = calls-are-slots run w ok;
-  due = λ stolen. row-due run stolen w ok;
-  demand-3 = λ rest planned stolen e given. row-promised run stolen w ok rest planned e given;
+  tie = any-history run w ok;
+  fresh-is-true = row-reads run w ok;
+  due = row-due run w ok;
+  demand-3 = λ planned stolen b e rest given i row place. row-promised run w ok stolen i row place planned b e rest given;
 }
 
 pub kept : Promises
@@ -61,5 +62,5 @@ kept = record {
   reads-13 = reads-13-exactly;
   reads-14 = reads-14-exactly;
   same-ahead = same-tables;
-  in-history = λ os stolen rows phased. kept-in-history os stolen (record { phased = phased; rows = rows });
+  in-history = kept-in-history;
 }

@@ -1,14 +1,14 @@
 -- The promises of demands 2 and 3, each in full, on one page; `kept : Promises` in Kept.antt proves them. Demand 1 is in the contracts.
 -- Assumes nothing but what each statement says. Promises/Words.antt tells where each word is defined: those of document 01 in crate
--- `rules`, the history, its run in true time, in History.antt; `runAfter run stolen t` is the run of the rules after t slots.
+-- `rules`, the history, its run in true time, in crate `theory`; `runAfter run stolen t` is the run of the rules after t slots.
 pub mod Words
 use Prim.Native.Nat.{ℕ, _+_, _^_, _≤_, _<_}
 use mathlib.Core.Path.{_≡_}
 use mathlib.Core.Logic.{_↔_, _⊎_}
 use mathlib.Core.Bool.{Bool, true, false}
-use mathlib.Core.List.{List, []}
+use mathlib.Core.List.{List, [], map}
 use mathlib.Core.Option.{some}
-use lib.ListN.{take, getD, getElem?}
+use lib.ListN.{length, take, getD, getElem?}
 use Words.*
 use Rattle.rules.specs.declared.Reading.the-variants as reading
 
@@ -36,7 +36,7 @@ pub record OfTable (table : Table) : Type 0 where
 -- ── Demand 3 ──
 
 -- what the object o at place i is promised of a run from the instant b to the instant e; its releases are those at first + k · period
-pub record Promised (run : ℕ → Run) (i : ℕ) (o : Object) (b e : ℕ) : Type 0 where
+pub record Promised (run : ℕ → Run) (i : ℕ) (o : RunObject) (b e : ℕ) : Type 0 where
   -- at each release nothing is left of the job before, and step 1 begins a job, sampled at the release
   pub begins : (r : ℕ) → IsRelease o r → b ≤ r → r ≤ e
       → (runRow (run r) i .left ≡ 0) × (releasedOf (run r .clock) (runRow (run r) i) ≡ begunOf (run r .clock) (runRow (run r) i))
@@ -49,13 +49,14 @@ pub record Promised (run : ℕ → Run) (i : ℕ) (o : Object) (b e : ℕ) : Typ
   pub fresh : (t : ℕ) → b + o .plan .validity ≤ t → t ≤ e
       → (age : ℕ) × (readingOf (run t) (o .plan .id) ≡ reading.Fresh age) × (age < o .plan .validity)
 
--- of the object o at place i in every run, whatever slots are stolen and however often the clock wraps; w is its state in the history
-pub record InEveryRun (run : ℕ → Run) (w : ℕ → State) (i : ℕ) (o : Object) : Type 0 where
+-- of the object o at place i in every run, whatever slots are stolen and however often the clock wraps; c is its course in true time
+pub record InEveryRun (run : ℕ → Run) (c : Course) (i : ℕ) (o : RunObject) : Type 0 where
   -- FRESH IS TRUE. A reading is fresh exactly while there is a value whose true age is below the validity, and tells that age.
-  pub fresh-is-true : (t : ℕ) → readingOf (run t) (o .plan .id) ≡ trueReading (trueAge t (w t .value)) (o .plan .validity)
+  pub fresh-is-true : (t : ℕ)
+      → readingOf (run t) (o .plan .id) ≡ trueReading (trueAge (c .from + t) (state c i t .value)) (o .plan .validity)
   -- That value, and the sample in hand, is of a release before t. Releases are due at first + k · period and at no other instant.
-  pub stored-sample : (t p : ℕ) → w t .value ≡ some p → (p < t) × IsRelease o p
-  pub sample-in-hand : (t : ℕ) → 0 < w t .left → (w t .sample < t) × IsRelease o (w t .sample)
+  pub stored-sample : (t p : ℕ) → state c i t .value ≡ some p → (r : ℕ) × (p ≡ c .from + r) × (r < t) × IsRelease o r
+  pub sample-in-hand : (t : ℕ) → 0 < state c i t .left → (r : ℕ) × (state c i t .sample ≡ c .from + r) × (r < t) × IsRelease o r
   pub due : (t : ℕ) → DueAt run i t ↔ IsRelease o t
 
 -- the run after t slots of a table that is started
@@ -66,13 +67,13 @@ pub record OfStart (table : Table) (clock : ℕ) (firsts : List ℕ) : Type 0 wh
   -- NEVER 13. A started run is acceptable, so what is said below of such runs is true of it: no call is refused.
   pub never-13 : Fits (startOf table clock firsts .run) × (acceptable (startOf table clock firsts .run) ≡ true)
   -- TIE. The run after t slots is the history at t in 32 bits: clock, next release, work left, sample, lapse marks, stored value, skips.
-  pub tie : (stolen : ℕ → Bool) (t : ℕ)
-      → runOf table clock firsts stolen t ≡ encodeRun clock t (objectsIn table firsts) (history (objectsIn table firsts) stolen t)
-  pub in-every-run : (stolen : ℕ → Bool) (i : ℕ) (o : Object) → getElem? (objectsIn table firsts) i ≡ some o
-      → InEveryRun (runOf table clock firsts stolen) (state (objectsIn table firsts) stolen i) i o
+  pub tie : (stolen : ℕ → Bool) (t : ℕ) → runOf table clock firsts stolen t
+      ≡ encodeRun (plansIn table) (spare (plansIn table)) (clock + t) (history (startCourse table clock firsts stolen) t)
+  pub in-every-run : (stolen : ℕ → Bool) (i : ℕ) (o : RunObject) → getElem? (objectsIn table firsts) i ≡ some o
+      → InEveryRun (runOf table clock firsts stolen) (startCourse table clock firsts stolen) i o
   -- DEMAND 3 from any instant b with nothing left over, up to any instant e before which no slot is stolen.
   pub demand-3 : (stolen : ℕ → Bool) (b e : ℕ) → NothingLeft (runOf table clock firsts stolen b) → Unstolen stolen b e
-      → (i : ℕ) (o : Object) → getElem? (objectsIn table firsts) i ≡ some o → Promised (runOf table clock firsts stolen) i o b e
+      → (i : ℕ) (o : RunObject) → getElem? (objectsIn table firsts) i ≡ some o → Promised (runOf table clock firsts stolen) i o b e
 
 -- of an acceptable run, however it came about: the ages of its samples are taken on trust
 pub record OfRun (run : Run) : Type 0 where
@@ -82,12 +83,19 @@ pub record OfRun (run : Run) : Type 0 where
       × Fits (slotOf run stolen) × (acceptable (slotOf run stolen) ≡ true)
   -- CALLS of `slot` and `advance`, each on the run that the one before handed back: the run after so many slots, none refused.
   pub calls : (cs : List Call) → callsOf run cs ≡ stepped (runAfter run (stolenBy cs) (slotsIn cs))
+  -- TIE. The run after t slots is, in 32 bits, the history at t of the states that it was handed in with; a reading tells their true ages.
+  pub tie : (stolen : ℕ → Bool) (t : ℕ) → runAfter run stolen t
+      ≡ encodeRun (plans (usedRows run)) (beyond run) (fromOf (run .clock) + t) (history (courseOf run stolen) t)
+  pub fresh-is-true : (stolen : ℕ → Bool) (i : ℕ) (row : RunRow) → getElem? (usedRows run) i ≡ some row → (t : ℕ)
+      → readingOf (runAfter run stolen t) (row .planned .id)
+      ≡ trueReading (trueAge (fromOf (run .clock) + t) (state (courseOf run stolen) i t .value)) (row .planned .validity)
   -- Releases are due one period after another, the first of them counted from the clock.
   pub due : (stolen : ℕ → Bool) (i : ℕ) (row : RunRow) → getElem? (usedRows run) i ≡ some row
-      → (t : ℕ) → DueAt (runAfter run stolen) i t ↔ IsRelease (objectOf (run .clock) row) t
-  -- DEMAND 3 where nothing is left over and the rows are planned.
-  pub demand-3 : NothingLeft run → PlannedRows (plans (usedRows run)) → (stolen : ℕ → Bool) (e : ℕ) → Unstolen stolen 0 e
-      → (i : ℕ) (row : RunRow) → getElem? (usedRows run) i ≡ some row → Promised (runAfter run stolen) i (objectOf (run .clock) row) 0 e
+      → (t : ℕ) → DueAt (runAfter run stolen) i t ↔ IsRelease (goingOn (run .clock) row) t
+  -- DEMAND 3 where the rows are planned, from any instant b with nothing left over, up to any instant e before which no slot is stolen.
+  pub demand-3 : PlannedRows (plans (usedRows run)) → (stolen : ℕ → Bool) (b e : ℕ) → NothingLeft (runAfter run stolen b)
+      → Unstolen stolen b e → (i : ℕ) (row : RunRow) → getElem? (usedRows run) i ≡ some row
+      → Promised (runAfter run stolen) i (goingOn (run .clock) row) b e
 
 -- ── All of them ──
 
@@ -104,10 +112,9 @@ pub record Promises : Type 0 where
   -- these, give each of these the same row at every instant, so the same starts, finishes and skips, and the same readings.
   pub same-ahead : (a b : Table) (clock : ℕ) (f g : List ℕ) → startOf a clock f .verdict ≡ Accepted → startOf b clock g .verdict ≡ Accepted
       → clock < 2 ^ 32 → (k : ℕ) → take k (ordered a) ≡ take k (ordered b) → take k f ≡ take k g
-      → (i : ℕ) (o : Object) → i < k → getElem? (objectsIn a f) i ≡ some o → (stolen : ℕ → Bool) (t : ℕ)
+      → (i : ℕ) (o : RunObject) → i < k → getElem? (objectsIn a f) i ≡ some o → (stolen : ℕ → Bool) (t : ℕ)
       → (runRow (runOf a clock f stolen t) i ≡ runRow (runOf b clock g stolen t) i)
       × (readingOf (runOf a clock f stolen t) (o .plan .id) ≡ readingOf (runOf b clock g stolen t) (o .plan .id))
-  -- IN TIME. What demand 3 says, in true time and for any number of planned objects.
-  pub in-history : (os : List Object) (stolen : ℕ → Bool) → PlannedRows (plansOf os) → InPhase os
-      → (b e : ℕ) → Quiet (history os stolen b) → Unstolen stolen b e
-      → (i : ℕ) (o : Object) → getElem? os i ≡ some o → KeptInHistory os stolen i o b e
+  -- IN TIME. What demand 3 says, in true time and for any number of planned objects, from any acceptable states and for any actual works.
+  pub in-history : (c : Course) (ps : List PlanRow) → plansOf c ≡ map objectOf ps → PlannedRows ps → Acceptable (c .from) (c .begin)
+      → (b e : ℕ) → Quiet (history c b) → Unstolen (c .stolen) b e → (i : ℕ) → i < length ps → KeptInHistory c i b e

@@ -1,104 +1,90 @@
 -- What becomes of an object depends only on it and on the objects ahead of it.
 -- Assumes two starts at one clock, with the same slots stolen.
-use Prim.Native.Nat.{ℕ, zero, suc, _^_, _<_}
+use Prim.Native.Nat.{ℕ, zero, suc, _+_, _^_, _<_}
 use mathlib.Core.Path.{_≡_, refl, ap, ap₂, sym, _∙_}
 use mathlib.Core.Bool.{Bool}
 use mathlib.Core.List.{List, [], _∷_}
 use mathlib.Core.Option.{some}
 use native.Mathlib.Omega.{arith}
 use lib.ListN.{length, take, getD, getElem?, length-take}
-use lib.Seq.{getD-take}
+use lib.Seq.{getD-take, take-nil}
 use Rattle.rules.specs.declared.PlanRow.{PlanRow}
+use Rattle.rules.specs.declared.RunRow.{RunRow}
 use Rattle.rules.specs.declared.Table.{Table}
 use Rattle.rules.specs.declared.Verdict.the-variants.{Accepted}
-use Rattle.rules.specs.Deadlines.{planOf, plannedRows}
+use Rattle.rules.specs.Deadlines.{noPlanRow, planOf}
 use Rattle.rules.specs.Run.{startOf, readingOf}
-use Rattle.promises.specs.History.{Object, noObject, objectsOf, objectsIn, noState, history, object, state}
-use Rattle.promises.specs.Track.{prefix}
-use Rattle.promises.specs.Encode.{runAfter, runRow}
-use Rattle.rules.proofs.Lists.{standing}
-use Rattle.promises.specs.Tie.{startWith, run-row}
-use Rattle.promises.specs.NeverRefused.{Startable}
+use Rattle.theory.specs.Model.{State, state}
+use Rattle.theory.specs.Prefix
+use Rattle.theory.specs.Start.{start, starts}
+use Rattle.promises.specs.Runs.{runAfter, runRow, RunObject, objectsIn}
+use Rattle.promises.specs.Encode.{objectOf, courseFrom, encode, encodeRun, startStates}
+use Rattle.promises.specs.Tie.{Encodable, unheld-from, encodable-after, run-history, row-at}
 use Rattle.promises.specs.Readings.{reading-true}
 use Rattle.promises.specs.SamePlan.{same-ahead-same-plan}
-use Rattle.promises.specs.PlanExactly.{ordered}
+use Rattle.promises.specs.PlanExactly.{ordered, plansIn}
 use Rattle.promises.specs.StartExactly.{start-planned}
 use Rattle.promises.specs.Promises.{runOf}
-use Rattle.promises.specs.Starts.{StartedWith, started-with}
+use Rattle.promises.specs.Starts.{started-with, object-stands}
 
--- the objects of rows and first releases that agree on the first k
-pub objects-take : (k : ℕ) (ps : List PlanRow) (fs : List ℕ) → take k (objectsOf ps fs) ≡ objectsOf (take k ps) (take k fs)
-objects-take zero ps fs = refl
-objects-take (suc k) [] fs = refl
-objects-take (suc k) (p ∷ ps) [] = refl
-objects-take (suc k) (p ∷ ps) (f ∷ fs) = ap {B = List Object} (λ l. record { plan = p; first = f } ∷ l) (objects-take k ps fs)
+-- ── Two runs whose first k objects begin alike ──
 
-module _ (k : ℕ) (os os′ : List Object) (same : take k os ≡ take k os′) (i : ℕ) (h : i < k) where
-  same-object : object os i ≡ object os′ i
-  same-object = sym (getD-take k os i noObject h) ∙ (ap (λ l. object l i) same ∙ getD-take k os′ i noObject h)
+module _ {k i : ℕ} {ps ps′ : List PlanRow} {beyond beyond′ : List RunRow} {from : ℕ} {ws ws′ : List State}
+    (x : Encodable ps beyond from ws) (x′ : Encodable ps′ beyond′ from ws′) (plans-same : take k ps ≡ take k ps′)
+    (begin-same : take k ws ≡ take k ws′) (h : i < k) (l : i < length ps) (stolen : ℕ → Bool) (t : ℕ) where
+  same-plan : getD ps i noPlanRow ≡ getD ps′ i noPlanRow
+  same-plan =
+      sym (getD-take k ps i noPlanRow h)
+      ∙ (ap (λ (qs : List PlanRow). getD qs i noPlanRow) plans-same ∙ getD-take k ps′ i noPlanRow h)
 
-  -- in the history
-  pub same-state : (stolen : ℕ → Bool) (t : ℕ) → state os stolen i t ≡ state os′ stolen i t
-  same-state stolen t =
-      let p : getD (take k (history os stolen t)) i noState ≡ state os stolen i t = getD-take k (history os stolen t) i noState h in
-      let p′ : getD (take k (history os′ stolen t)) i noState ≡ state os′ stolen i t = getD-take k (history os′ stolen t) i noState h in
-      sym p ∙ (ap (λ l. getD l i noState) (prefix k os stolen t ∙ (ap (λ l. history l stolen t) same ∙ sym (prefix k os′ stolen t))) ∙ p′)
+  same-place : i < length ps′
+  same-place = let e = rw (length-take k ps, length-take k ps′) at (ap length plans-same) in omega arith
 
-  same-place : i < length os → i < length os′
-  same-place l = let e = rw (length-take k os, length-take k os′) at (ap length same) in omega arith
+  same-state : state (courseFrom from ws stolen) i t ≡ state (courseFrom from ws′ stolen) i t
+  same-state =
+      let given : Prefix.SameGiven k t (courseFrom from ws stolen) (courseFrom from ws′ stolen) =
+      record { from-same = refl; begin-same = begin-same; works-same = λ j u y z. refl; stolen-same = λ u y. refl } in
+      Prefix.same-ahead k (courseFrom from ws stolen) (courseFrom from ws′ stolen) t given
+      (rw (x .objects-are) (unheld-from ps k)) (rw (x′ .objects-are) (unheld-from ps′ k)) i h
 
-  module _ (c : ℕ) (stolen : ℕ → Bool) (low : c < 2 ^ 32) (ok : Startable os) (ok′ : Startable os′) (l : i < length os) (t : ℕ) where
-    -- in the runs: the same row
-    pub same-row : runRow (runAfter (startWith c os) stolen t) i ≡ runRow (runAfter (startWith c os′) stolen t) i
-    same-row = rw (run-row c os stolen low (ok .runnable) i l t, run-row c os′ stolen low (ok′ .runnable) i (same-place l) t, same-state stolen t, same-object)
+  -- the same row
+  pub same-row : runRow (runAfter (encodeRun ps beyond from ws) stolen t) i ≡ runRow (runAfter (encodeRun ps′ beyond′ from ws′) stolen t) i
+  same-row = row-at x stolen t i l ∙ (ap₂ (encode (from + t)) same-plan same-state ∙ sym (row-at x′ stolen t i same-place))
 
-    -- and the same reading
-    pub same-reading : readingOf (runAfter (startWith c os) stolen t) (object os i .plan .id) ≡ readingOf (runAfter (startWith c os′) stolen t) (object os i .plan .id)
-    same-reading =
-        let o′ = object os′ i in
-        let e : readingOf (runAfter (startWith c os′) stolen t) (object os i .plan .id) ≡ readingOf (runAfter (startWith c os′) stolen t) (o′ .plan .id) =
-        ap (λ (o : Object). readingOf (runAfter (startWith c os′) stolen t) (o .plan .id)) same-object in
-        reading-true c os stolen low ok t i l
-        ∙ (rw (same-state stolen t, same-object) (sym (reading-true c os′ stolen low ok′ t i (same-place l))) ∙ sym e)
+  -- and the same reading
+  pub same-reading : readingOf (runAfter (encodeRun ps beyond from ws) stolen t) (getD ps i noPlanRow .id)
+      ≡ readingOf (runAfter (encodeRun ps′ beyond′ from ws′) stolen t) (getD ps i noPlanRow .id)
+  same-reading =
+      rw (run-history x stolen t, run-history x′ stolen t)
+      (reading-true (encodable-after x stolen t) i l
+      ∙ rw (same-state, same-plan) (sym (reading-true (encodable-after x′ stolen t) i same-place)))
 
 -- ── Two starts ──
 
-module _ (table table′ : Table) (firsts firsts′ : List ℕ) (clock : ℕ) (accepted : startOf table clock firsts .verdict ≡ Accepted) (accepted′ : startOf table′ clock firsts′ .verdict ≡ Accepted)
-    (low : clock < 2 ^ 32) (k : ℕ) (plans-same : take k (plannedRows (planOf table .plan)) ≡ take k (plannedRows (planOf table′ .plan))) (firsts-same : take k firsts ≡ take k firsts′)
-    (i : ℕ) (o : Object) (h : i < k) (place : getElem? (objectsIn table firsts) i ≡ some o) (stolen : ℕ → Bool) (t : ℕ) where
-  with : StartedWith table clock firsts
-  with = started-with table clock firsts accepted
+starts-take : (k clock : ℕ) (ps : List PlanRow) (fs : List ℕ)
+    → take k (startStates clock ps fs) ≡ startStates clock (take k ps) (take k fs)
+unfolding starts
+starts-take zero clock ps fs = refl
+starts-take (suc k) clock [] fs = refl
+starts-take (suc k) clock (p ∷ ps) [] =
+    ap {B = List State} (λ ws. start clock (objectOf p) 0 ∷ ws) (rw (take-nil {A = ℕ} k) at (starts-take k clock ps []))
+starts-take (suc k) clock (p ∷ ps) (f ∷ fs) = ap {B = List State} (λ ws. start clock (objectOf p) f ∷ ws) (starts-take k clock ps fs)
 
-  with′ : StartedWith table′ clock firsts′
-  with′ = started-with table′ clock firsts′ accepted′
-
-  here : (i < length (objectsIn table firsts)) × (object (objectsIn table firsts) i ≡ o)
-  here = standing noObject (objectsIn table firsts) i o place
-
-  same-objects : take k (objectsIn table firsts) ≡ take k (objectsIn table′ firsts′)
-  same-objects =
-      objects-take k (plannedRows (planOf table .plan)) firsts ∙ (ap₂ objectsOf plans-same firsts-same ∙ sym (objects-take k (plannedRows (planOf table′ .plan)) firsts′))
-
-  pub starts-row : runRow (runAfter (startOf table clock firsts .run) stolen t) i ≡ runRow (runAfter (startOf table′ clock firsts′ .run) stolen t) i
-  starts-row =
-      rw (with .run-is, with′ .run-is)
-      (same-row k (objectsIn table firsts) (objectsIn table′ firsts′) same-objects i h clock stolen low (with .startable) (with′ .startable) (here .0) t)
-
-  pub starts-reading : readingOf (runAfter (startOf table clock firsts .run) stolen t) (o .plan .id) ≡ readingOf (runAfter (startOf table′ clock firsts′ .run) stolen t) (o .plan .id)
-  starts-reading =
-      rw (with .run-is, with′ .run-is)
-      (rw (here .1) at (same-reading k (objectsIn table firsts) (objectsIn table′ firsts′) same-objects i h clock stolen low (with .startable) (with′ .startable) (here .0) t))
-
--- the same of two tables that agree on the first k objects in priority order
+-- tables that agree on the first k objects in priority order
 pub same-tables : (a b : Table) (clock : ℕ) (f g : List ℕ) → startOf a clock f .verdict ≡ Accepted → startOf b clock g .verdict ≡ Accepted
     → clock < 2 ^ 32 → (k : ℕ) → take k (ordered a) ≡ take k (ordered b) → take k f ≡ take k g
-    → (i : ℕ) (o : Object) → i < k → getElem? (objectsIn a f) i ≡ some o → (stolen : ℕ → Bool) (t : ℕ)
+    → (i : ℕ) (o : RunObject) → i < k → getElem? (objectsIn a f) i ≡ some o → (stolen : ℕ → Bool) (t : ℕ)
     → (runRow (runOf a clock f stolen t) i ≡ runRow (runOf b clock g stolen t) i)
     × (readingOf (runOf a clock f stolen t) (o .plan .id) ≡ readingOf (runOf b clock g stolen t) (o .plan .id))
 same-tables a b clock f g accepted accepted′ low k rows firsts i o h place stolen t =
     let planned = start-planned (planOf a) clock f accepted in
     let planned′ = start-planned (planOf b) clock g accepted′ in
-    let plans = same-ahead-same-plan a b planned planned′ k rows in (
-      starts-row a b f g clock accepted accepted′ low k plans firsts i o h place stolen t,
-      starts-reading a b f g clock accepted accepted′ low k plans firsts i o h place stolen t,
+    let plans = same-ahead-same-plan a b planned planned′ k rows in
+    let s = object-stands (plansIn a) f i o place in
+    let x = started-with a clock f accepted low in
+    let x′ = started-with b clock g accepted′ low in
+    let begin = starts-take k clock (plansIn a) f ∙ (ap₂ (startStates clock) plans firsts ∙ sym (starts-take k clock (plansIn b) g)) in
+    rw (x .run-is, x′ .run-is, ← s .1) (
+      same-row (x .encodable) (x′ .encodable) plans begin h (s .0) stolen t,
+      same-reading (x .encodable) (x′ .encodable) plans begin h (s .0) stolen t,
     )

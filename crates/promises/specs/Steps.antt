@@ -1,24 +1,28 @@
--- Each of the three steps of a slot, in 32 bits and in the history, comes to the same row. Step 3 moves the instant on, and nothing else.
--- Assumes sound planned numbers and states within the bounds of a history.
-use Prim.Native.Nat.{ℕ, zero, suc, _+_, _-_, _≤_, _<_, min}
+-- Each of the three steps of a slot, in 32 bits and in the theory, comes to the same row. Step 3 moves the instant on, and nothing else.
+-- Assumes sound planned numbers and states within their bounds.
+use Prim.Native.Nat.{ℕ, suc, _+_, _-_, _%_, _^_, _≤_, _<_, min}
 use mathlib.Core.Path.{_≡_, refl, ap, sym, _∙_}
-use mathlib.Core.Bool.{Bool, true, false, cond}
+use mathlib.Core.Logic.{_≢_}
+use mathlib.Core.Bool.{Bool, true, false, cond, not}
 use mathlib.Core.List.{List, [], _∷_}
 use mathlib.Core.Option.{Option, none, some}
-use native.Mathlib.Decide.{decLe, ℕ-discrete}
+use native.Mathlib.Decide.{decLe}
 use native.Mathlib.Omega.{arith}
 use lib.Dec.{eqb, leb, ltb}
-use borrow.Author.Tests.{eq-eqb, ne-eqb, lt-ltb, le-leb, lt-leb}
+use lib.ListN.{length, getD}
+use borrow.Author.Tests.{eq-eqb, ne-eqb, eqb-false, lt-ltb, le-ltb, le-leb, lt-leb}
 use Rattle.rules.specs.declared.PlanRow.{PlanRow}
+use Rattle.rules.specs.declared.RunRow.{RunRow}
 use Rattle.rules.specs.declared.Stored.the-variants.{Held, Lapsed}
+use Rattle.rules.specs.Deadlines.{noPlanRow}
 use Rattle.rules.specs.RunState.{ageOf}
 use Rattle.rules.specs.Run.{releasedOf, stepOne, storedAs, servedOf, serveFirst, stepTwo, agedStored, agedHand, agedOf, stepThree, slotRows}
-use Rattle.promises.specs.History.{Object, State, release, releases, worked, workFirst, slot}
-use Rattle.promises.specs.Encode.{clockAt, sampleAt, lapsedAt, storedAt, encode, encodes}
-use Rattle.promises.specs.Clock.{wrap-add, wrap-tick, wrap-same, age-true}
+use Rattle.theory.specs.Model.{Object, State, at, begun, skipped, release, releases, finished, oneLess, worked, hasWork, workFirst}
+use Rattle.theory.specs.Model.{Bounded, Past}
+use Rattle.theory.specs.Cases.{release-holds, work-holds}
+use Rattle.promises.specs.Encode.{objectOf, lapsedOf, storedOf, encode, encodes}
+use Rattle.promises.specs.Clock.{wrap-later, wrap-tick, wrap-same, age-true}
 use Rattle.promises.specs.Sound.{Sound}
-use Rattle.promises.specs.Bounds.{Bounded, Each, Known}
-use Rattle.promises.specs.Bounds.Each.{over, also}
 
 -- a count that stops at 4,294,967,295
 stops : (k : ℕ) → cond (ltb (min k 4294967295) 4294967295) (min k 4294967295 + 1) (min k 4294967295) ≡ min (suc k) 4294967295
@@ -27,21 +31,6 @@ stops k =
       | yes y ↦ (let e : min k 4294967295 ≡ 4294967295 = omega arith in rw e (omega arith))
       | no y ↦ rw (lt-ltb (min k 4294967295) 4294967295 (omega arith)) (omega arith)
     ]
-
-eqb-same : (x : ℕ) → eqb x x ≡ true
-eqb-same x = eq-eqb x x refl
-
-eqb-suc : (l : ℕ) → eqb (suc l) 0 ≡ false
-eqb-suc l = ne-eqb (suc l) 0 (λ e. omega arith)
-
--- where work is left, it does not matter how much
-sample-left : (c l p : ℕ) → 1 ≤ l → sampleAt c l p ≡ sampleAt c 1 p
-sample-left c zero p h = absurd (omega arith)
-sample-left c (suc l) p h = refl
-
-lapsed-left : (t v l p : ℕ) → 1 ≤ l → lapsedAt t v l p ≡ lapsedAt t v 1 p
-lapsed-left t v zero p h = absurd (omega arith)
-lapsed-left t v (suc l) p h = refl
 
 -- ── Lapse marks ──
 
@@ -61,97 +50,148 @@ either false true = refl
 either false false = refl
 
 -- and that is what has truly reached the validity v: what was not marked before is so young that the clock tells its true age
-marked : (c t p v : ℕ) → p < suc t → v ≤ 1000000 → cond (leb v (t - p)) true (leb v (ageOf (clockAt c (suc t)) (clockAt c p))) ≡ leb v (suc t - p)
-marked c t p v past small =
-    elim (decLe v (t - p)) [
-      | yes y ↦ rw (le-leb v (t - p) y) (sym (le-leb v (suc t - p) (omega arith)))
-      | no y ↦ rw (lt-leb v (t - p) (omega arith), age-true c (suc t) p (omega arith) (omega arith))
+marked : (now p v : ℕ) → p ≤ now → v ≤ 1000000
+    → cond (leb v (now - p)) true (leb v (ageOf (suc now % 2 ^ 32) (p % 2 ^ 32))) ≡ leb v (suc now - p)
+marked now p v past small =
+    elim (decLe v (now - p)) [
+      | yes y ↦ rw (le-leb v (now - p) y) (sym (le-leb v (suc now - p) (omega arith)))
+      | no y ↦ rw (lt-leb v (now - p) (omega arith), age-true (suc now) p (omega arith) (omega arith))
     ]
-
-abbrev stateOf : ℕ → ℕ → ℕ → Option ℕ → ℕ → State
-stateOf n l p v k = record { next = n; left = l; sample = p; value = v; skips = k }
 
 -- ── One row ──
 
-module _ (c t : ℕ) (o : Object) (ok : Sound (o .plan)) where
-  due-now : (l p : ℕ) (v : Option ℕ) (k : ℕ)
-      → releasedOf (clockAt c t) (encode c t (o .plan) (stateOf t l p v k)) ≡ encode c t (o .plan) (release t o (stateOf t l p v k))
-  unfolding releasedOf encode release
-  due-now zero p v k =
-      let young : t - t < o .plan .validity = omega arith in
-      simp (eqb-same, sample-left, lapsed-left, ok .cost-pos, lt-leb (o .plan .validity) (t - t) young, wrap-add)
-  due-now (suc l) p v k = simp (eqb-same, eqb-suc, stops, wrap-add)
+-- what is known of the state of an object that is planned so
+pub record Known (now : ℕ) (p : PlanRow) (w : State) : Type 0 where
+  pub sound : Sound p
+  pub planned-is : w .planned ≡ objectOf p
+  pub bounded : Bounded now w
+  pub past : Past now w
 
-  released-tie : (n l p : ℕ) (v : Option ℕ) (k : ℕ) → t ≤ n → n < t + o .plan .period
-      → releasedOf (clockAt c t) (encode c t (o .plan) (stateOf n l p v k)) ≡ encode c t (o .plan) (release t o (stateOf n l p v k))
-  unfolding releasedOf encode release
-  released-tie n l p v k f u =
-      elim (ℕ-discrete n t) [
-        | yes y ↦ rw y (due-now l p v k)
-        | no y ↦ simp (ne-eqb n t y, ne-eqb (clockAt c n) (clockAt c t) (λ e. y (wrap-same c t n f (omega arith) e)))
-      ]
-
+module _ (now : ℕ) (p : PlanRow) (w : State) where
   -- step 1
-  released-row : (w : State) → Bounded o t w → releasedOf (clockAt c t) (encode c t (o .plan) w) ≡ encode c t (o .plan) (release t o w)
-  released-row w h = released-tie (w .next) (w .left) (w .sample) (w .value) (w .skips) (h .next-from) (h .next-below)
+  released-row : Known now p w → releasedOf (now % 2 ^ 32) (encode now p w) ≡ encode now p (release now 0 w)
+  unfolding releasedOf encode begun skipped
+  released-row k = release-holds (λ u. releasedOf (now % 2 ^ 32) (encode now p w) ≡ encode now p u) now 0 w rests begins skips
+    where
+      rests : w .next ≢ now → releasedOf (now % 2 ^ 32) (encode now p w) ≡ encode now p w
+      rests d =
+          let period-is : w .planned .period ≡ p .period = ap (λ (o : Object). o .period) (k .planned-is) in
+          let b = k .bounded in
+          let ok = k .sound in
+          rw (ne-eqb (w .next % 2 ^ 32) (now % 2 ^ 32) (λ y. d (wrap-same now (w .next) (b .next-from) (omega arith) y)))
 
-  -- step 3, for the stored value and for the sample in hand
-  stored-tie : (x : Option ℕ) → ((p : ℕ) → x ≡ some p → p < suc t)
-      → agedStored (clockAt c (suc t)) (o .plan .validity) (storedAt c t (o .plan .validity) x) ≡ storedAt c (suc t) (o .plan .validity) x
-  stored-tie none h = refl
-  stored-tie (some p) h =
-      stored-marked (clockAt c (suc t)) (o .plan .validity) (clockAt c p) (leb (o .plan .validity) (t - p))
-      ∙ ap (λ mark. storedAs mark (clockAt c p)) (marked c t p (o .plan .validity) (h p refl) (ok .small))
+      begins : w .next ≡ now → w .left ≡ 0 → releasedOf (now % 2 ^ 32) (encode now p w) ≡ encode now p (begun now 0 w)
+      begins d z =
+          let ok = k .sound in
+          let young : now - now < p .validity = omega arith in
+          let pos : p .cost ≢ 0 = λ y. omega arith in
+          simp (
+            k .planned-is,
+            d,
+            eq-eqb (now % 2 ^ 32) (now % 2 ^ 32) refl,
+            eq-eqb (w .left) 0 z,
+            ne-eqb (p .cost) 0 pos,
+            lt-leb (p .validity) (now - now) young,
+            wrap-later,
+          )
 
-  hand-tie : (n l p : ℕ) (x : Option ℕ) (k : ℕ) → (1 ≤ l → p < suc t)
-      → agedHand (clockAt c (suc t)) (encode c t (o .plan) (stateOf n l p x k)) ≡ lapsedAt (suc t) (o .plan .validity) l p
-  unfolding encode
-  hand-tie n zero p x k h = refl
-  hand-tie n (suc l) p x k h =
-      rw (eqb-suc l)
-      (either (leb (o .plan .validity) (ageOf (clockAt c (suc t)) (clockAt c p))) (leb (o .plan .validity) (t - p)) ∙ marked c t p (o .plan .validity) (h (omega arith)) (ok .small))
+      skips : w .next ≡ now → 0 < w .left → releasedOf (now % 2 ^ 32) (encode now p w) ≡ encode now p (skipped w)
+      skips d z =
+          let work : w .left ≢ 0 = λ y. omega arith in
+          simp (k .planned-is, d, eq-eqb (now % 2 ^ 32) (now % 2 ^ 32) refl, ne-eqb (w .left) 0 work, stops, wrap-later)
 
-  aged-row : (w : State) → Bounded o (suc t) w → agedOf (clockAt c (suc t)) (encode c t (o .plan) w) ≡ encode c (suc t) (o .plan) w
-  unfolding agedOf encode
-  aged-row w h =
-      simp (hand-tie (w .next) (w .left) (w .sample) (w .value) (w .skips) (h .in-hand), stored-tie (w .value) (h .stored))
+  -- step 2, at a row with work left
+  served-row : 0 < w .left → servedOf (encode now p w) ≡ encode now p (worked w)
+  unfolding servedOf encode finished oneLess
+  served-row h = work-holds (λ u. servedOf (encode now p w) ≡ encode now p u) w (λ z. absurd (omega arith)) last more
+    where
+      last : w .left ≡ 1 → servedOf (encode now p w) ≡ encode now p (finished w)
+      last z = rw (le-ltb 1 (w .left) (omega arith), ne-eqb (w .left) 0 (λ y. omega arith))
+
+      more : 1 < w .left → servedOf (encode now p w) ≡ encode now p (oneLess w)
+      more z = rw (lt-ltb 1 (w .left) z, ne-eqb (w .left) 0 (λ y. omega arith), ne-eqb (w .left - 1) 0 (λ y. omega arith))
+
+  module _ (ok : Sound p) where
+    -- step 3, for the stored value and for the sample in hand
+    stored-row : (x : Option ℕ) → ((s : ℕ) → x ≡ some s → s ≤ now)
+        → agedStored (suc now % 2 ^ 32) (p .validity) (storedOf now (p .validity) x) ≡ storedOf (suc now) (p .validity) x
+    stored-row none h = refl
+    stored-row (some s) h =
+        stored-marked (suc now % 2 ^ 32) (p .validity) (s % 2 ^ 32) (leb (p .validity) (now - s))
+        ∙ ap (λ mark. storedAs mark (s % 2 ^ 32)) (marked now s (p .validity) (h s refl) (ok .small))
+
+    hand-row : (0 < w .left → w .sample ≤ now)
+        → agedHand (suc now % 2 ^ 32) (encode now p w) ≡ lapsedOf (suc now) (p .validity) (w .left) (w .sample)
+    unfolding encode
+    hand-row h = elim (decLe 1 (w .left)) [
+      | yes y ↦
+          rw (ne-eqb (w .left) 0 (λ z. omega arith))
+          (either (leb (p .validity) (ageOf (suc now % 2 ^ 32) (w .sample % 2 ^ 32))) (leb (p .validity) (now - w .sample))
+          ∙ marked now (w .sample) (p .validity) (h y) (ok .small))
+      | no y ↦ rw (eq-eqb (w .left) 0 (omega arith))
+    ]
+
+    aged-row : Past now w → agedOf (suc now % 2 ^ 32) (encode now p w) ≡ encode (suc now) p w
+    unfolding agedOf encode
+    aged-row h = simp (hand-row (h .in-hand), stored-row (w .value) (h .stored))
 
 -- ── The rows ──
 
-module _ (c t : ℕ) where
-  step-one : {os : List Object} {ws : List State} → Each (Known t) os ws → stepOne (clockAt c t) (encodes c t os ws) ≡ encodes c t os (releases t os ws)
+-- row by row
+pub data Each (R : PlanRow → State → Type 0) : List PlanRow → List State → Type 0 where
+  over : Each R [] []
+  also : {p : PlanRow} {w : State} {ps : List PlanRow} {ws : List State} → R p w → Each R ps ws → Each R (p ∷ ps) (w ∷ ws)
+
+pub each-of : {R : PlanRow → State → Type 0} (ps : List PlanRow) (ws : List State) → length ps ≡ length ws
+    → ((i : ℕ) → i < length ws → R (getD ps i noPlanRow) (at ws i)) → Each R ps ws
+each-of [] [] e f = Each.over
+each-of [] (w ∷ ws) e f = absurd (omega arith)
+each-of (p ∷ ps) [] e f = absurd (omega arith)
+each-of (p ∷ ps) (w ∷ ws) e f = Each.also (f 0 (omega arith)) (each-of ps ws (omega arith) (λ i h. f (suc i) (omega arith)))
+
+-- what step 3 asks
+abbrev pub Aging : ℕ → PlanRow → State → Type 0
+Aging now p w = Sound p × Past now w
+
+module _ (now : ℕ) where
+  step-one : {ps : List PlanRow} {ws : List State} → Each (Known now) ps ws
+      → stepOne (now % 2 ^ 32) (encodes now ps ws) ≡ encodes now ps (releases now (λ i. 0) ws)
   unfolding encodes releases
-  step-one over = refl
-  step-one (also {o = o} {w = w} k ks) = rw (released-row c t o (k .0) w (k .1), step-one ks)
+  step-one Each.over = refl
+  step-one (Each.also {p = p} {w = w} k ks) = rw (released-row now p w k, step-one ks)
 
-  -- the first row with work, in 32 bits and in the history
-  first-work : (plan : PlanRow) (n l p : ℕ) (v : Option ℕ) (k : ℕ) (os : List Object) (ws : List State) → serveFirst (encodes c t os ws) ≡ encodes c t os (workFirst ws)
-      → cond (eqb l 0) (encode c t plan (stateOf n l p v k) ∷ serveFirst (encodes c t os ws)) (servedOf (encode c t plan (stateOf n l p v k)) ∷ encodes c t os ws)
-      ≡ encodes c t (record { plan = plan; first = 0 } ∷ os) (cond (eqb l 0) (stateOf n l p v k ∷ workFirst ws) (worked l (stateOf n l p v k) ∷ ws))
-  unfolding encodes encode servedOf worked
-  first-work plan n zero p v k os ws e = rw e
-  first-work plan n (suc zero) p v k os ws e = refl
-  first-work plan n (suc (suc l)) p v k os ws e =
-      let m : suc (suc l) - 1 ≡ suc l = omega arith in
-      simp (eqb-suc, lt-ltb 1 (suc (suc l)) (omega arith), m)
+  -- the first row with work left is the same; z tells whether the row at hand has none
+  first-row : (p : PlanRow) (w : State) (ps : List PlanRow) (ws : List State) (z : Bool) → eqb (w .left) 0 ≡ z
+      → serveFirst (encodes now ps ws) ≡ encodes now ps (workFirst hasWork ws)
+      → cond z (encode now p w ∷ serveFirst (encodes now ps ws)) (servedOf (encode now p w) ∷ encodes now ps ws)
+      ≡ encodes now (p ∷ ps) (cond (not z) (worked w ∷ ws) (w ∷ workFirst hasWork ws))
+  unfolding encodes
+  first-row p w ps ws true e ih = ap {B = List RunRow} (λ l. encode now p w ∷ l) ih
+  first-row p w ps ws false e ih =
+      let n : w .left ≢ 0 = eqb-false (w .left) 0 e in
+      ap (λ (r : RunRow). r ∷ encodes now ps ws) (served-row now p w (omega arith))
 
-  serve-first : (os : List Object) (ws : List State) → serveFirst (encodes c t os ws) ≡ encodes c t os (workFirst ws)
+  serve-first : (ps : List PlanRow) (ws : List State) → serveFirst (encodes now ps ws) ≡ encodes now ps (workFirst hasWork ws)
   unfolding serveFirst encodes workFirst encode
   serve-first [] ws = refl
-  serve-first (o ∷ os) [] = refl
-  serve-first (o ∷ os) (w ∷ ws) = first-work (o .plan) (w .next) (w .left) (w .sample) (w .value) (w .skips) os ws (serve-first os ws)
+  serve-first (p ∷ ps) [] = refl
+  serve-first (p ∷ ps) (w ∷ ws) = first-row p w ps ws (eqb (w .left) 0) refl (serve-first ps ws)
 
-  step-two : (stolen : Bool) (os : List Object) (ws : List State) → stepTwo stolen (encodes c t os ws) ≡ encodes c t os (cond stolen ws (workFirst ws))
-  step-two true os ws = refl
-  step-two false os ws = serve-first os ws
+  step-two : (stolen : Bool) (ps : List PlanRow) (ws : List State)
+      → stepTwo stolen (encodes now ps ws) ≡ encodes now ps (cond stolen ws (workFirst hasWork ws))
+  step-two true ps ws = refl
+  step-two false ps ws = serve-first ps ws
 
-  step-three : {os : List Object} {ws : List State} → Each (Known (suc t)) os ws → stepThree (clockAt c (suc t)) (encodes c t os ws) ≡ encodes c (suc t) os ws
+  step-three : {ps : List PlanRow} {ws : List State} → Each (Aging now) ps ws
+      → stepThree (suc now % 2 ^ 32) (encodes now ps ws) ≡ encodes (suc now) ps ws
   unfolding encodes
-  step-three over = refl
-  step-three (also {o = o} {w = w} k ks) = rw (aged-row c t o (k .0) w (k .1), step-three ks)
+  step-three Each.over = refl
+  step-three (Each.also {p = p} {w = w} k ks) = rw (aged-row now p w (k .0) (k .1), step-three ks)
 
   -- the slot
-  pub slot-rows : (stolen : Bool) (os : List Object) (ws : List State) → Each (Known t) os ws → Each (Known (suc t)) os (slot t stolen os ws)
-      → slotRows (clockAt c t) stolen (encodes c t os ws) ≡ encodes c (suc t) os (slot t stolen os ws)
-  unfolding slot
-  slot-rows stolen os ws k m = rw (step-one k, step-two stolen os (releases t os ws), wrap-tick c t) (step-three m)
+  pub slot-rows : (stolen : Bool) (ps : List PlanRow) (ws : List State)
+      → let ones = releases now (λ i. 0) ws in
+      let after = cond stolen ones (workFirst hasWork ones) in
+      Each (Known now) ps ws → Each (Aging now) ps after
+      → slotRows (now % 2 ^ 32) stolen (encodes now ps ws) ≡ encodes (suc now) ps after
+  slot-rows stolen ps ws k m = rw (step-one k, step-two stolen ps (releases now (λ i. 0) ws), wrap-tick now) (step-three m)

@@ -4,6 +4,7 @@
 -- document 01: what goes in and what is answered
 pub use Rattle.rules.specs.declared.Table.{Table}
 pub use Rattle.rules.specs.declared.Run.{Run}
+pub use Rattle.rules.specs.declared.PlanRow.{PlanRow}
 pub use Rattle.rules.specs.declared.RunRow.{RunRow}
 pub use Rattle.rules.specs.declared.Stored.the-variants.{Held}
 pub use Rattle.rules.specs.declared.Verdict.the-variants.{Accepted}
@@ -22,10 +23,11 @@ pub use Rattle.promises.specs.Plans.{PlannedRows}
 pub use Rattle.promises.specs.PlanExactly.{ordered, plansIn, placesIn, IdsDiffer, PlannedBehind}
 pub use Rattle.promises.specs.StartExactly.{GroundOf}
 pub use Rattle.promises.specs.ReadExactly.{NoneHas}
--- the history, which is the run in true time, and what it looks like in 32 bits; the run after so many slots, and calls
-pub use Rattle.promises.specs.History.{Object, State, objectsIn, history, state, plansOf, InPhase, trueAge, Unstolen, Quiet}
-pub use Rattle.promises.specs.InHistory.{KeptInHistory}
-pub use Rattle.promises.specs.Sampled.{IsRelease}
-pub use Rattle.promises.specs.Encode.{runAfter, Fits, runRow, DueAt, objectOf, NothingLeft, encodeRun}
-pub use Rattle.promises.specs.Slots.{plans}
+-- the run after so many slots, calls, and objects of a run
+pub use Rattle.promises.specs.Runs.{runAfter, Fits, runRow, plans, DueAt, NothingLeft, RunObject, goingOn, objectsIn, IsRelease}
+pub use Rattle.promises.specs.Runs.{trueAge}
 pub use Rattle.promises.specs.Calls.{Call, callsOf, stolenBy, slotsIn}
+-- the history, which is the run in true time, what it looks like in 32 bits, and the states that a run is handed in with
+pub use Rattle.theory.specs.Model.{Course, history, state, plansOf, Quiet, Unstolen, Acceptable}
+pub use Rattle.promises.specs.Encode.{objectOf, encodeRun, spare, startCourse, fromOf, beyond, courseOf}
+pub use Rattle.promises.specs.InHistory.{KeptInHistory}

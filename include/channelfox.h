@@ -12,7 +12,7 @@
  * looked for: a NULL pointer, as any that does not go with its length, has no defined outcome.
  * Sizes, in bytes: a table 776, a plan 1,288, a run 3,088; an object row 12, a planned row 20, a run row 48; the answers a verdict
  * (16) more.
- * Stack, measured: channelfox_advance 28 KB, channelfox_start 21, channelfox_slot 19, channelfox_read_value 16, the plans 10, the others
+ * Stack, measured: channelfox_advance 28 KB, channelfox_start 22, channelfox_slot 19, channelfox_read_value 16, the plans 11, the others
  * under 4.
  * Padding. There are two bytes of padding behind each `id`, and padding behind `number`, `clock` and `source`: they are not set, so two
  * equal structs may differ under memcmp. Compare field by field.

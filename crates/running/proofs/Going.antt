@@ -1,43 +1,22 @@
--- The loops of `advance_rows`: what holds between slots, what holds between rows, and each way on. Assumes nothing.
-use Prim.Native.Nat.{ℕ, zero, suc, _+_, _-_, _^_, _≤_, _<_}
-use mathlib.Core.Path.{_≡_, refl, sym, _∙_}
-use mathlib.Core.Bool.{Bool, true, false, not}
+-- The loops of `advance_rows`: what holds between slots and within a slot, and each way on. Assumes nothing.
+use Prim.Native.Nat.{ℕ, zero, suc, _+_, _^_, _≤_, _<_}
+use mathlib.Core.Path.{_≡_, refl, sym, _∙_, ap}
+use mathlib.Core.Bool.{cond}
 use mathlib.Core.List.{List, [], _∷_}
 use native.Mathlib.Decide.{ℕ-discrete}
 use native.Mathlib.Numerals.{add-one}
 use native.Mathlib.Omega.{arith}
-use borrow.Author.Tests.{not-true, not-false}
+use borrow.Author.Tests.{ne-eqb}
 use lib.Dec.{eqb}
-use lib.ListN.{length, take, drop, getD, set, length-set, drop-of-length-le}
-use lib.Seq.{drop-cons, getD-set-same, getD-set-other}
+use lib.ListN.{length, drop, getD, set, length-set, replicate, drop-of-length-le}
+use lib.Seq.{drop-cons, getD-set-same, getD-set-other, set-getD}
 use Rattle.rules.specs.declared.RunRow.{RunRow}
 use Rattle.rules.specs.declared.Run.{Run}
-use Rattle.rules.specs.Run.{tick, releasedOf, servedOf, agedOf, slotOf, slotsOf, isStolen}
-use Rattle.stepping.specs.OneRow.{passedOf, stillFree, unmoved}
-use Rattle.running.specs.Calm.{Calm}
-use Rattle.running.proofs.ThreeSteps.{one-pass}
-use Rattle.running.proofs.Turns.{rest, PassedTo, passed-none, passed-unmoved, passed-stored, passed-all}
-use Rattle.running.proofs.CalmSlots.{AllIdle, AllQuiet, calm-later, calm-fewer, calm-now, calm-less, lessOf, quiet-less, quiet-served, slot-taken, slot-unused, slot-used}
-
--- ── The list of slots ──
-
-not-not : (b : Bool) → not (not b) ≡ b
-not-not true = refl
-not-not false = refl
-
--- one slot more of the list
-one-slot : (count clock : ℕ) (rows : List RunRow) (s : ℕ) (ss : List ℕ) → slotsOf (record { clock = clock; count = count; rows = rows }) (s ∷ ss) ≡ slotsOf (record { clock = tick clock; count = count; rows = rest clock (eqb s 0) count rows }) ss
-unfolding slotsOf slotOf
-one-slot count clock rows s ss = rw (← one-pass clock (isStolen s) (take count rows), not-not (eqb s 0))
-
-onward : (x : Run) (list : List ℕ) (count clock k : ℕ) (rows next : List RunRow) → k < length list → rest clock (eqb (getD list k 0) 0) count rows ≡ next → slotsOf (record { clock = clock; count = count; rows = rows }) (drop k list) ≡ x → slotsOf (record { clock = tick clock; count = count; rows = next }) (drop (k + 1) list) ≡ x
-onward x list count clock k rows next h e g =
-    rw (← e, add-one k) (sym (one-slot count clock rows (getD list k 0) (drop (suc k) list)) ∙ (rw (drop-cons list k 0 h) at g))
-
--- the end of the list
-pub slots-end : (r x : Run) (list : List ℕ) (k : ℕ) → length list ≤ k → slotsOf r (drop k list) ≡ x → r ≡ x
-unfolding slotsOf
-slots-end r x list k h e = rw (drop-of-length-le list {i = k} h) at e
+use Rattle.rules.specs.RunState.{dueIn}
+use Rattle.rules.specs.Run.{tick, releasedOf, servedOf, agedOf, slotOf, slotsOf}
+use Rattle.running.specs.Rests.{Rests}
+use Rattle.running.proofs.Ahead.{due-later, nearer-later, due-now, rests-now, rests-later, ahead-same, lessOf, served-less, rests-less, served-next}
+use Rattle.running.proofs.EachRow.{eachIn, serveIn, slot-is, each-stored, each-same, each-all, AllIdle, serve-none, serve-at}
 
 -- ── Elements ──
 
@@ -46,99 +25,362 @@ getD-any [] i d d′ h = absurd (omega arith)
 getD-any (x ∷ l) zero d d′ h = refl
 getD-any (x ∷ l) (suc i) d d′ h = getD-any l i d d′ (omega arith)
 
--- a property of each row below n after a store at i
-all-stored : (P : RunRow → Type 0) (l : List RunRow) (i j n : ℕ) (v d : RunRow) → i < length l → ((j ≡ i → ⊥) → j < n → P (getD l j d)) → P v → j < n → P (getD (set l i v) j d)
-all-stored P l i j n v d h q p k = by-eq (ℕ-discrete j i)
+-- a property of the row j after a store at i
+stored-at : (P : RunRow → Type 0) (l : List RunRow) (i j : ℕ) (v d : RunRow) → i < length l → ((j ≡ i → ⊥) → P (getD l j d)) → (j ≡ i → P v) → P (getD (set l i v) j d)
+stored-at P l i j v d h q p = by-eq (ℕ-discrete j i)
   where
     by-eq : Dec (j ≡ i) → P (getD (set l i v) j d)
-    by-eq (yes e) = rw (e, getD-set-same l i v d h) p
-    by-eq (no e) = rw (getD-set-other l i j v d e) (q e k)
+    by-eq (yes e) = rw (e, getD-set-same l i v d h) (p e)
+    by-eq (no e) = rw (getD-set-other l i j v d e) (q e)
 
-pub idle-more : (rows : List RunRow) (f : ℕ) (d : RunRow) → f < length rows → AllIdle f rows → getD rows f d .left ≡ 0 → AllIdle (f + 1) rows
+-- a property of the row j and the number j after a store of both at i
+both-at : (P : ℕ → RunRow → Type 0) (l : List RunRow) (m : List ℕ) (i j : ℕ) (v d : RunRow) (x : ℕ) → i < length l → i < length m → ((j ≡ i → ⊥) → P (getD m j 0) (getD l j d)) → (j ≡ i → P x v) → P (getD (set m i x) j 0) (getD (set l i v) j d)
+both-at P l m i j v d x h k q p = by-eq (ℕ-discrete j i)
+  where
+    by-eq : Dec (j ≡ i) → P (getD (set m i x) j 0) (getD (set l i v) j d)
+    by-eq (yes e) = rw (e, getD-set-same l i v d h, getD-set-same m i x 0 k) (p e)
+    by-eq (no e) = rw (getD-set-other l i j v d e, getD-set-other m i j x 0 e) (q e)
+
+idle-more : (rows : List RunRow) (f : ℕ) (d : RunRow) → f < length rows → AllIdle f rows → getD rows f d .left ≡ 0 → AllIdle (f + 1) rows
 idle-more rows f d h w e = λ i d′ k. by-eq i d′ k (ℕ-discrete i f)
   where
     by-eq : (i : ℕ) (d′ : RunRow) → i < f + 1 → Dec (i ≡ f) → getD rows i d′ .left ≡ 0
     by-eq i d′ k (yes y) = rw (y, getD-any rows f d′ d h) e
     by-eq i d′ k (no y) = w i d′ (omega (arith, y))
 
--- ── Between rows ──
+idle-stored : (rows : List RunRow) (i f n : ℕ) (v : RunRow) → n ≤ f → n ≤ i → AllIdle f rows → AllIdle n (set rows i v)
+idle-stored rows i f n v h k w = λ j d z. rw (getD-set-other rows i j v d (λ u. omega arith)) (w j d (omega arith))
 
--- the pass stands at the row i, and the rows before it are calm from the next slot on
-pub record Passing (clock count : ℕ) (free₀ : Bool) (rows₀ rows : List RunRow) (calm : ℕ) (free : Bool) (i : ℕ) : Type 0 where
-  pub passed : PassedTo clock count free₀ rows₀ rows free i
-  pub calm-rows : (j : ℕ) (d : RunRow) → j < i → Calm (tick clock) calm (getD rows j d)
+-- no row is due before the clock value `due`
+abbrev pub AllUndue : ℕ → ℕ → ℕ → List RunRow → Type 0
+AllUndue clock due count rows = (j : ℕ) (d : RunRow) → j < count → dueIn clock due ≤ dueIn clock (getD rows j d .next)
 
-pub passing-none : {clock count : ℕ} {free : Bool} {rows : List RunRow} {calm : ℕ} → count ≤ 64 → length rows ≡ 64 → Passing clock count free rows rows calm free 0
-passing-none f l = record { passed = passed-none f l; calm-rows = λ j d z. absurd (omega arith) }
+-- a store that leaves the next release as it is
+undue-stored : (clock due count : ℕ) (rows : List RunRow) (i : ℕ) (v d : RunRow) → i < count → i < length rows → v .next ≡ getD rows i d .next → AllUndue clock due count rows → AllUndue clock due count (set rows i v)
+undue-stored clock due count rows i v d h k e q =
+    λ j d′ z. stored-at (λ w. dueIn clock due ≤ dueIn clock (w .next)) rows i j v d′ k (λ u. q j d′ z) (λ u. rw e (q i d h))
 
-module _ {clock count : ℕ} {free₀ free : Bool} {rows₀ rows : List RunRow} {calm i : ℕ} (p : Passing clock count free₀ rows₀ rows calm free i) (d : RunRow) (h : i < count) (n : ℕ) where
-  here : i < length rows
-  here = omega (arith, p .passed .long, p .passed .few)
+-- ── What holds at all times ──
 
-  pub passing-unmoved : unmoved clock free (getD rows i d) ≡ true → n ≤ calm → Calm (tick clock) n (getD rows i d) → Passing clock count free₀ rows₀ rows n free (i + 1)
-  passing-unmoved e a q =
-      record { passed = passed-unmoved (p .passed) d h e; calm-rows = λ j d′ k. next j d′ k (ℕ-discrete j i) }
-    where
-      next : (j : ℕ) (d′ : RunRow) → j < i + 1 → Dec (j ≡ i) → Calm (tick clock) n (getD rows j d′)
-      next j d′ k (yes y) = rw (y, getD-any rows i d′ d here) q
-      next j d′ k (no y) = calm-fewer _ _ _ _ a (p .calm-rows j d′ (omega (arith, y)))
+-- nothing lapses at the row before the clock value `own`, which is not before `lapse`
+pub record Watch (clock lapse own : ℕ) (row : RunRow) : Type 0 where
+  pub soon : dueIn clock lapse ≤ dueIn clock own
+  pub rests : Rests clock (dueIn clock own) row
 
-  pub passing-stored : (v : RunRow) → v ≡ passedOf clock free (getD rows i d) → n ≤ calm → Calm (tick clock) n v → Passing clock count free₀ rows₀ (set rows i v) n (stillFree free (releasedOf clock (getD rows i d))) (i + 1)
-  passing-stored v e a q =
-      record { passed = passed-stored (p .passed) d h v e; calm-rows = λ j d′ k. all-stored (Calm (tick clock) n) rows i j (i + 1) v d′ here (λ z y. calm-fewer _ _ _ _ a (p .calm-rows j d′ (omega (arith, z)))) q k }
+pub record Kept (clock count : ℕ) (rows : List RunRow) (lapses : List ℕ) (lapse first : ℕ) : Type 0 where
+  pub few : count ≤ 64
+  pub long : length rows ≡ 64
+  pub wide : length lapses ≡ 64
+  pub sized : clock < 2 ^ 32
+  pub watched : (j : ℕ) (d : RunRow) → j < count → Watch clock lapse (getD lapses j 0) (getD rows j d)
+  pub idle : AllIdle first rows
+
+watch-nearer : {clock n m l : ℕ} {row : RunRow} → dueIn clock m ≤ dueIn clock n → Watch clock n l row → Watch clock m l row
+watch-nearer h q = record { soon = omega (arith, h, q .soon); rests = q .rests }
+
+rests-on : (clock l : ℕ) (row : RunRow) → clock < 2 ^ 32 → 0 < dueIn clock l → Rests clock (dueIn clock l) row → Rests (tick clock) (dueIn (tick clock) l) row
+rests-on clock l row h k q = rests-later clock (dueIn clock l) (dueIn (tick clock) l) row (omega (arith, due-later clock l h k)) q
+
+watch-later : {clock n l : ℕ} {row : RunRow} → clock < 2 ^ 32 → 0 < dueIn clock n → Watch clock n l row → Watch (tick clock) n l row
+watch-later {clock = clock} {n = n} {l = l} {row = row} h k q =
+    record { soon = nearer-later clock n l h k (q .soon); rests = rests-on clock l row h (omega (arith, k, q .soon)) (q .rests) }
+
+-- the row i becomes v, which rests until l
+kept-stored : {clock count lapse first : ℕ} {rows : List RunRow} {lapses : List ℕ} → Kept clock count rows lapses lapse first → (i l r f : ℕ) (v : RunRow) → i < count → Rests clock (dueIn clock l) v → dueIn clock r ≤ dueIn clock lapse → dueIn clock r ≤ dueIn clock l → f ≤ first → f ≤ i → Kept clock count (set rows i v) (set lapses i l) r f
+kept-stored {clock = clock} {count = count} {first = first} {rows = rows} {lapses = lapses} p i l r f v h q a b s t =
+    record {
+      few = p .few;
+      long = length-set rows i v ∙ p .long;
+      wide = length-set lapses i l ∙ p .wide;
+      sized = p .sized;
+      watched = λ j d z. both-at (Watch clock r) rows lapses i j v d l (omega (arith, h, p .few, p .long)) (omega (arith, h, p .few, p .wide)) (λ u. watch-nearer a (p .watched j d z)) (λ u. record { soon = b; rests = q });
+      idle = idle-stored rows i first f v s t (p .idle);
+    }
 
 -- ── Between slots ──
 
 -- what is left of the list makes of the rows what the whole list makes of the start
-pub record Going (start : Run) (list : List ℕ) (count : ℕ) (rows : List RunRow) (clock calm first k : ℕ) : Type 0 where
-  pub few : count ≤ 64
-  pub long : length rows ≡ 64
+pub record Going (start : Run) (list : List ℕ) (count : ℕ) (rows : List RunRow) (clock : ℕ) (lapses : List ℕ) (due lapse first k : ℕ) : Type 0 where
+  pub kept : Kept clock count rows lapses lapse first
   pub upTo : k ≤ length list
-  pub sized : 0 < calm → clock < 2 ^ 32
   pub on : slotsOf (record { clock = clock; count = count; rows = rows }) (drop k list) ≡ slotsOf start list
-  pub calm-rows : (i : ℕ) (d : RunRow) → i < count → Calm clock calm (getD rows i d)
+  pub undue : AllUndue clock due count rows
+
+getD-replicate : (n i x : ℕ) → i < n → getD (replicate n x) i 0 ≡ x
+getD-replicate zero i x h = absurd (omega arith)
+getD-replicate (suc n) zero x h = refl
+getD-replicate (suc n) (suc i) x h = getD-replicate n i x (omega arith)
+
+pub going-none : {count : ℕ} {rows : List RunRow} {clock : ℕ} {list : List ℕ} → count ≤ 64 → length rows ≡ 64 → clock < 2 ^ 32 → Going (record { clock = clock; count = count; rows = rows }) list count rows clock (replicate 64 clock) clock clock 0 0
+going-none {clock = clock} f l h =
+    record {
+      kept = record {
+        few = f;
+        long = l;
+        wide = refl;
+        sized = h;
+        watched = λ j d z. rw (getD-replicate 64 j clock (omega arith)) (record { soon = omega arith; rests = λ e k. absurd (omega (arith, k, due-now clock h)) });
+        idle = λ i d z. absurd (omega arith);
+      };
+      upTo = omega arith;
+      on = refl;
+      undue = λ j d z. omega (arith, due-now clock h);
+    }
+
+one-slot : (count clock : ℕ) (rows : List RunRow) (s : ℕ) (ss : List ℕ) → slotsOf (record { clock = clock; count = count; rows = rows }) (s ∷ ss)
+    ≡ slotsOf (record { clock = tick clock; count = count; rows = eachIn (agedOf (tick clock)) count (serveIn (cond (eqb s 0) count 0) (eachIn (releasedOf clock) count rows)) }) ss
+unfolding slotsOf slotOf
+one-slot count clock rows s ss = rw (slot-is clock count (eqb s 0) rows)
+
+onward : (x : Run) (list : List ℕ) (count clock k : ℕ) (rows rows₁ rows₂ rows₃ : List RunRow) → k < length list → rows₁ ≡ eachIn (releasedOf clock) count rows → rows₂ ≡ serveIn (cond (eqb (getD list k 0) 0) count 0) rows₁ → rows₃ ≡ eachIn (agedOf (tick clock)) count rows₂ → slotsOf (record { clock = clock; count = count; rows = rows }) (drop k list) ≡ x → slotsOf (record { clock = tick clock; count = count; rows = rows₃ }) (drop (k + 1) list) ≡ x
+onward x list count clock k rows rows₁ rows₂ rows₃ h a b c g =
+    rw (c, b, a, add-one k) (sym (one-slot count clock rows (getD list k 0) (drop (suc k) list)) ∙ (rw (drop-cons list k 0 h) at g))
+
+-- the end of the list
+pub slots-end : (r x : Run) (list : List ℕ) (k : ℕ) → length list ≤ k → slotsOf r (drop k list) ≡ x → r ≡ x
+unfolding slotsOf
+slots-end r x list k h e = rw (drop-of-length-le list {i = k} h) at e
+
+-- a row is left out only where slots are still to come in which none needs a look
+none-calm : (calm count upto j : ℕ) → upto ≡ cond (eqb calm 0) count 0 → j < count → (j < upto → j < 0) → 0 < calm
+none-calm zero count upto j u h k = absurd (omega (arith, k (omega (arith, u))))
+none-calm (suc calm) count upto j u h k = omega arith
+
+some-few : (calm count upto : ℕ) → upto ≡ cond (eqb calm 0) count 0 → upto ≤ count
+some-few zero count upto u = omega (arith, u)
+some-few (suc calm) count upto u =
+    let v : upto ≡ 0 = rw (ne-eqb (suc calm) 0 (λ z. omega arith)) at u in
+    omega (arith, v)
+
+nearer-yet : {a b c : ℕ} → a ≤ b → b ≤ c → a ≤ c
+nearer-yet h k = omega arith
+
+-- ── Step 1 ──
+
+-- the rows before i are released
+pub record Releasing (clock count : ℕ) (rows₀ : List RunRow) (upto : ℕ) (rows : List RunRow) (lapses : List ℕ) (due lapse first i : ℕ) : Type 0 where
+  pub kept : Kept clock count rows lapses lapse first
+  pub fits : upto ≤ count
+  pub long₀ : length rows₀ ≡ 64
+  pub upTo : i ≤ upto
+  pub same : rows ≡ eachIn (releasedOf clock) i rows₀
+  pub undue : (j : ℕ) (d : RunRow) → j < count → (j < upto → j < i) → dueIn (tick clock) due ≤ dueIn (tick clock) (getD rows j d .next)
+
+pub releasing-none : {start : Run} {list : List ℕ} {count : ℕ} {rows : List RunRow} {clock : ℕ} {lapses : List ℕ} {due lapse first k upto : ℕ} → Going start list count rows clock lapses due lapse first k → upto ≡ cond (eqb (dueIn clock due) 0) count 0 → Releasing clock count rows upto rows lapses due lapse first 0
+unfolding eachIn
+releasing-none {count = count} {rows = rows} {clock = clock} {due = due} {upto = upto} g u =
+    record {
+      kept = g .kept;
+      fits = some-few (dueIn clock due) count upto u;
+      long₀ = g .kept .long;
+      upTo = omega arith;
+      same = refl;
+      undue = λ j d z y. nearer-later clock due (getD rows j d .next) (g .kept .sized) (none-calm (dueIn clock due) count upto j u z y) (g .undue j d z);
+    }
+
+module _ {clock count : ℕ} {rows₀ : List RunRow} {upto : ℕ} {rows : List RunRow} {lapses : List ℕ} {due lapse first i : ℕ} (p : Releasing clock count rows₀ upto rows lapses due lapse first i) where
+  module _ (d : RunRow) (h : i < upto) (n : ℕ) (a : dueIn (tick clock) n ≤ dueIn (tick clock) due) where
+    rel-here : i < count
+    rel-here = omega (arith, h, p .fits)
+
+    -- not due
+    pub releasing-same : (getD rows i d .next ≡ clock → ⊥) → dueIn (tick clock) n ≤ dueIn (tick clock) (getD rows i d .next) → Releasing clock count rows₀ upto rows lapses n lapse first (i + 1)
+    unfolding releasedOf
+    releasing-same w q =
+        record {
+          kept = p .kept;
+          fits = p .fits;
+          long₀ = p .long₀;
+          upTo = omega arith;
+          same = each-same (releasedOf clock) i rows rows₀ d (omega (arith, rel-here, p .kept .few, p .long₀)) (p .same) (simp (ne-eqb _ _ w));
+          undue = λ j d′ z y. by-eq j d′ z y (ℕ-discrete j i);
+        }
+      where
+        by-eq : (j : ℕ) (d′ : RunRow) → j < count → (j < upto → j < i + 1) → Dec (j ≡ i) → dueIn (tick clock) n ≤ dueIn (tick clock) (getD rows j d′ .next)
+        by-eq j d′ z y (yes e) = rw (e, getD-any rows i d′ d (omega (arith, rel-here, p .kept .few, p .kept .long))) q
+        by-eq j d′ z y (no e) = nearer-yet a (p .undue j d′ z (λ x. omega (arith, e, y x)))
+
+    -- due: the row becomes v
+    pub releasing-stored : (v : RunRow) (l r f : ℕ) → v ≡ releasedOf clock (getD rows i d) → dueIn (tick clock) n ≤ dueIn (tick clock) (v .next) → Rests clock (dueIn clock l) v → dueIn clock r ≤ dueIn clock lapse → dueIn clock r ≤ dueIn clock l → f ≤ first → f ≤ i → Releasing clock count rows₀ upto (set rows i v) (set lapses i l) n r f (i + 1)
+    releasing-stored v l r f e q t x y s u =
+        record {
+          kept = kept-stored (p .kept) i l r f v rel-here t x y s u;
+          fits = p .fits;
+          long₀ = p .long₀;
+          upTo = omega arith;
+          same = each-stored (releasedOf clock) i rows rows₀ v d (omega (arith, rel-here, p .kept .few, p .long₀)) (p .same) e;
+          undue = λ j d′ z w. stored-at (λ o. dueIn (tick clock) n ≤ dueIn (tick clock) (o .next)) rows i j v d′ (omega (arith, rel-here, p .kept .few, p .kept .long)) (λ o. nearer-yet a (p .undue j d′ z (λ k. omega (arith, o, w k)))) (λ o. q);
+        }
+
+  pub releasing-all : {start : Run} {list : List ℕ} {lapses₀ : List ℕ} {due₀ lapse₀ first₀ k : ℕ} → Going start list count rows₀ clock lapses₀ due₀ lapse₀ first₀ k → upto ≡ cond (eqb (dueIn clock due₀) 0) count 0 → upto ≤ i → rows ≡ eachIn (releasedOf clock) count rows₀
+  releasing-all {due₀ = due₀} g u h =
+      each-all (releasedOf clock) (dueIn clock due₀) count upto i rows rows₀ u h (p .upTo) (p .same) (λ c j d z. ahead-same clock (getD rows₀ j d) (g .kept .sized) (nearer-yet c (g .undue j d z)))
+
+-- ── Step 2 ──
+
+-- a row before `seek` is still to get the slot; none is where one got it
+pub record Serving (clock count byte seek₀ : ℕ) (rows₀ rows : List RunRow) (lapses : List ℕ) (due lapse first seek : ℕ) : Type 0 where
+  pub kept : Kept clock count rows lapses lapse first
+  pub fits : seek ≤ count
+  pub sought : seek₀ ≡ cond (eqb byte 0) count 0
+  pub undue : AllUndue (tick clock) due count rows
+  pub same : serveIn seek rows ≡ serveIn seek₀ rows₀
+
+pub serving-none : {clock count : ℕ} {rows₀ : List RunRow} {upto : ℕ} {rows : List RunRow} {lapses : List ℕ} {due lapse first i byte seek : ℕ} → Releasing clock count rows₀ upto rows lapses due lapse first i → upto ≤ i → seek ≡ cond (eqb byte 0) count 0 → Serving clock count byte seek rows rows lapses due lapse first seek
+serving-none {count = count} {byte = byte} {seek = seek} p h u =
+    record { kept = p .kept; fits = some-few byte count seek u; sought = u; undue = λ j d z. p .undue j d z (λ y. omega arith); same = refl }
+
+module _ {clock count byte seek₀ : ℕ} {rows₀ rows : List RunRow} {lapses : List ℕ} {due lapse first seek : ℕ} (p : Serving clock count byte seek₀ rows₀ rows lapses due lapse first seek) where
+  module _ (d : RunRow) (h : first < seek) where
+    ser-here : first < count
+    ser-here = omega (arith, h, p .fits)
+
+    in-served : first < length rows
+    in-served = omega (arith, ser-here, p .kept .few, p .kept .long)
+
+    -- a row without work
+    pub serving-idle : getD rows first d .left ≡ 0 → Serving clock count byte seek₀ rows₀ rows lapses due lapse (first + 1) seek
+    serving-idle e =
+        record {
+          kept = record { few = p .kept .few; long = p .kept .long; wide = p .kept .wide; sized = p .kept .sized; watched = p .kept .watched; idle = idle-more rows first d in-served (p .kept .idle) e };
+          fits = p .fits;
+          sought = p .sought;
+          undue = p .undue;
+          same = p .same;
+        }
+
+    -- the first row with work gets the slot
+    pub serving-used : (v : RunRow) (l r : ℕ) → (getD rows first d .left ≡ 0 → ⊥) → v ≡ servedOf (getD rows first d) → Rests clock (dueIn clock l) v → dueIn clock r ≤ dueIn clock lapse → dueIn clock r ≤ dueIn clock l → Serving clock count byte seek₀ rows₀ (set rows first v) (set lapses first l) due r first 0
+    unfolding serveIn
+    serving-used v l r b e q x y =
+        record {
+          kept = kept-stored (p .kept) first l r first v ser-here q x y (omega arith) (omega arith);
+          fits = omega arith;
+          sought = p .sought;
+          undue = undue-stored (tick clock) due count rows first v d ser-here in-served (rw e (served-next (getD rows first d))) (p .undue);
+          same = rw e (sym (serve-at seek first rows d h in-served (p .kept .idle) b) ∙ p .same);
+        }
+
+    -- and has more work than that
+    pub serving-less : 1 < getD rows first d .left → Serving clock count byte seek₀ rows₀ (set rows first (lessOf (getD rows first d))) lapses due lapse first 0
+    serving-less b =
+        let q = p .kept .watched first d ser-here in
+        rw (set-getD lapses first 0) at
+        (serving-used (lessOf (getD rows first d)) (getD lapses first 0) lapse (λ z. omega arith) (sym (served-less _ b)) (rests-less clock (dueIn clock (getD lapses first 0)) (getD rows first d) b (q .rests)) (omega arith) (q .soon))
+
+  serving-all : seek ≤ first → rows ≡ serveIn seek₀ rows₀
+  serving-all h = sym (serve-none seek rows (λ i d z. p .kept .idle i d (omega arith))) ∙ p .same
+
+-- ── Step 3 ──
+
+-- the rows before i are aged
+pub record Aging (clock count : ℕ) (rows₀ : List RunRow) (due first upto : ℕ) (rows : List RunRow) (lapses : List ℕ) (lapse i : ℕ) : Type 0 where
+  pub few : count ≤ 64
+  pub long₀ : length rows₀ ≡ 64
+  pub long : length rows ≡ 64
+  pub wide : length lapses ≡ 64
+  pub sized : clock < 2 ^ 32
+  pub fits : upto ≤ count
+  pub upTo : i ≤ upto
+  pub same : rows ≡ eachIn (agedOf (tick clock)) i rows₀
+  pub later : (j : ℕ) (d : RunRow) → j < count → (j < upto → j < i) → Watch (tick clock) lapse (getD lapses j 0) (getD rows j d)
+  pub still : (j : ℕ) (d : RunRow) → j < count → i ≤ j → Rests clock (dueIn clock (getD lapses j 0)) (getD rows j d)
+  pub undue : AllUndue (tick clock) due count rows
   pub idle : AllIdle first rows
 
-pub going-none : {count : ℕ} {rows : List RunRow} {clock : ℕ} {list : List ℕ} → count ≤ 64 → length rows ≡ 64 → Going (record { clock = clock; count = count; rows = rows }) list count rows clock 0 0 0
-going-none f l =
-    record { few = f; long = l; upTo = omega arith; sized = λ z. absurd (omega arith); on = refl; calm-rows = λ i d z e k. absurd (omega arith); idle = λ i d z. absurd (omega arith) }
+pub aging-none : {clock count byte seek₀ : ℕ} {rows₀ rows : List RunRow} {lapses : List ℕ} {due lapse first seek upto : ℕ} → Serving clock count byte seek₀ rows₀ rows lapses due lapse first seek → upto ≡ cond (eqb (dueIn clock lapse) 0) count 0 → Aging clock count rows due first upto rows lapses lapse 0
+unfolding eachIn
+aging-none {clock = clock} {count = count} {lapse = lapse} {upto = upto} p u =
+    record {
+      few = p .kept .few;
+      long₀ = p .kept .long;
+      long = p .kept .long;
+      wide = p .kept .wide;
+      sized = p .kept .sized;
+      fits = some-few (dueIn clock lapse) count upto u;
+      upTo = omega arith;
+      same = refl;
+      later = λ j d z y. watch-later (p .kept .sized) (none-calm (dueIn clock lapse) count upto j u z y) (p .kept .watched j d z);
+      still = λ j d z y. p .kept .watched j d z .rests;
+      undue = p .undue;
+      idle = p .kept .idle;
+    }
 
-module _ {start : Run} {list : List ℕ} {count : ℕ} {rows : List RunRow} {clock calm first k : ℕ} (g : Going start list count rows clock calm first k) (h : k < length list) where
-  -- a slot in which every row was looked at
-  pub going-pass : {rows′ : List RunRow} {calm′ : ℕ} {free : Bool} {i : ℕ} → Passing clock count (eqb (getD list k 0) 0) rows rows′ calm′ free i → count ≤ i → Going start list count rows′ (tick clock) calm′ 0 (k + 1)
-  going-pass p e =
-      record { few = g .few; long = p .passed .long; upTo = omega arith; sized = λ z. omega arith; on = onward _ list count clock k rows _ h (sym (passed-all (p .passed) e)) (g .on); calm-rows = λ i d z. p .calm-rows i d (omega arith); idle = λ i d z. absurd (omega arith) }
+module _ {clock count : ℕ} {rows₀ : List RunRow} {due first upto : ℕ} {rows : List RunRow} {lapses : List ℕ} {lapse i : ℕ} (p : Aging clock count rows₀ due first upto rows lapses lapse i) where
+  module _ (d : RunRow) (h : i < upto) (r : ℕ) (a : dueIn (tick clock) r ≤ dueIn (tick clock) lapse) where
+    old-here : i < count
+    old-here = omega (arith, h, p .fits)
 
-  -- a calm slot
-  module _ (c : 0 < calm) where
-    quiets : AllQuiet clock count rows
-    quiets i d z = calm-now clock calm _ (g .sized c) c (g .calm-rows i d z)
+    in-rows : i < length rows
+    in-rows = omega (arith, old-here, p .few, p .long)
 
-    onto : (rows′ : List RunRow) (m f : ℕ) → length rows′ ≡ 64 → rest clock (eqb (getD list k 0) 0) count rows ≡ rows′ → ((i : ℕ) (d : RunRow) → i < count → Calm (tick clock) m (getD rows′ i d)) → AllIdle f rows′ → Going start list count rows′ (tick clock) m f (k + 1)
-    onto rows′ m f l e q w =
-        record { few = g .few; long = l; upTo = omega arith; sized = λ z. omega arith; on = onward _ list count clock k rows rows′ h e (g .on); calm-rows = q; idle = w }
+    in-rows₀ : i < length rows₀
+    in-rows₀ = omega (arith, old-here, p .few, p .long₀)
 
-    calm-on : (i : ℕ) (d : RunRow) → i < count → Calm (tick clock) (calm - 1) (getD rows i d)
-    calm-on i d z = calm-later _ _ _ _ (omega arith) (g .calm-rows i d z)
+    in-lapses : i < length lapses
+    in-lapses = omega (arith, old-here, p .few, p .wide)
 
-    pub going-stolen : not (eqb (getD list k 0) 0) ≡ true → Going start list count rows (tick clock) (calm - 1) first (k + 1)
-    going-stolen s = onto rows _ _ (g .long) (rw (not-true (eqb (getD list k 0) 0) s) (slot-taken clock count rows quiets)) calm-on (g .idle)
+    -- nothing lapses now
+    pub aging-same : (dueIn clock (getD lapses i 0) ≡ 0 → ⊥) → dueIn (tick clock) r ≤ dueIn (tick clock) (getD lapses i 0) → Aging clock count rows₀ due first upto rows lapses r (i + 1)
+    aging-same z b =
+        record {
+          few = p .few;
+          long₀ = p .long₀;
+          long = p .long;
+          wide = p .wide;
+          sized = p .sized;
+          fits = p .fits;
+          upTo = omega arith;
+          same = each-same (agedOf (tick clock)) i rows rows₀ d in-rows₀ (p .same) (rests-now clock (dueIn clock (getD lapses i 0)) (getD rows i d) (p .sized) (omega (arith, z)) (p .still i d old-here (omega arith)));
+          later = λ j d′ x y. by-eq j d′ x y (ℕ-discrete j i);
+          still = λ j d′ x y. p .still j d′ x (omega arith);
+          undue = p .undue;
+          idle = p .idle;
+        }
+      where
+        by-eq : (j : ℕ) (d′ : RunRow) → j < count → (j < upto → j < i + 1) → Dec (j ≡ i) → Watch (tick clock) r (getD lapses j 0) (getD rows j d′)
+        by-eq j d′ x y (yes o) = rw o (record { soon = b; rests = rests-on clock (getD lapses i 0) (getD rows i d′) (p .sized) (omega (arith, z)) (p .still i d′ old-here (omega arith)) })
+        by-eq j d′ x y (no o) = watch-nearer a (p .later j d′ x (λ k. omega (arith, o, y k)))
 
-    module _ (s : not (eqb (getD list k 0) 0) ≡ false) {f : ℕ} (w : AllIdle f rows) where
-      pub going-unused : count ≤ f → Going start list count rows (tick clock) (calm - 1) f (k + 1)
-      going-unused z = onto rows _ _ (g .long) (rw (not-false (eqb (getD list k 0) 0) s) (slot-unused clock count rows quiets (λ i d y. w i d (omega arith)))) calm-on w
+    -- the row becomes v
+    pub aging-stored : (v : RunRow) (l : ℕ) → v ≡ agedOf (tick clock) (getD rows i d) → Rests (tick clock) (dueIn (tick clock) l) v → dueIn (tick clock) r ≤ dueIn (tick clock) l → Aging clock count rows₀ due first upto (set rows i v) (set lapses i l) r (i + 1)
+    unfolding agedOf
+    aging-stored v l e q b =
+        record {
+          few = p .few;
+          long₀ = p .long₀;
+          long = length-set rows i v ∙ p .long;
+          wide = length-set lapses i l ∙ p .wide;
+          sized = p .sized;
+          fits = p .fits;
+          upTo = omega arith;
+          same = each-stored (agedOf (tick clock)) i rows rows₀ v d in-rows₀ (p .same) e;
+          later = λ j d′ x y. both-at (Watch (tick clock) r) rows lapses i j v d′ l in-rows in-lapses (λ o. watch-nearer a (p .later j d′ x (λ k. omega (arith, o, y k)))) (λ o. record { soon = b; rests = q });
+          still = λ j d′ x y. both-at (λ m w. Rests clock (dueIn clock m) w) rows lapses i j v d′ l in-rows in-lapses (λ o. p .still j d′ x (omega arith)) (λ o. absurd (omega (arith, o, y)));
+          undue = undue-stored (tick clock) due count rows i v d old-here in-rows (rw e refl) (p .undue);
+          idle = λ j d′ x. stored-at (λ w. w .left ≡ 0) rows i j v d′ in-rows (λ o. p .idle j d′ x) (λ o. rw e (p .idle i d (omega (arith, o, x))));
+        }
 
-      -- the row f gets the slot and becomes v
-      going-used : (v d : RunRow) (m : ℕ) → f < count → (getD rows f d .left ≡ 0 → ⊥) → v ≡ passedOf clock true (getD rows f d) → m ≤ calm - 1 → Calm (tick clock) m v → Going start list count (set rows f v) (tick clock) m f (k + 1)
-      going-used v d m z b e a q =
-          let n : f < length rows = omega (arith, g .long, g .few) in
-          onto (set rows f v) m f (length-set rows f v ∙ g .long) (rw (not-false (eqb (getD list k 0) 0) s, e) (slot-used clock count f rows d z (omega (arith, g .long, g .few)) quiets w b))
-          (λ i d′ y. all-stored (Calm (tick clock) m) rows f i count v d′ n (λ u x. calm-fewer _ _ _ _ a (calm-on i d′ x)) q y)
-          (λ i d′ y. rw (getD-set-other rows f i v d′ (λ u. omega arith)) (w i d′ y))
+-- ── The next slot ──
 
-      pub going-less : (d : RunRow) → f < count → 1 < getD rows f d .left → Going start list count (set rows f (lessOf (getD rows f d))) (tick clock) (calm - 1) f (k + 1)
-      going-less d z b =
-          going-used _ d _ z (λ u. omega arith) (sym (quiet-less clock _ (quiets f d z) b)) (omega arith) (calm-less _ _ _ b (calm-on f d z))
-
-      pub going-done : (v d : RunRow) (m : ℕ) → f < count → (getD rows f d .left ≡ 0 → ⊥) → v ≡ agedOf (tick clock) (servedOf (getD rows f d)) → m ≤ calm - 1 → Calm (tick clock) m v → Going start list count (set rows f v) (tick clock) m f (k + 1)
-      going-done v d m z b e a q = going-used v d m z b (e ∙ sym (quiet-served clock _ (quiets f d z) b .0)) a q
+pub going-on : {start : Run} {list : List ℕ} {count : ℕ} {rows₀ : List RunRow} {clock : ℕ} {lapses₀ : List ℕ} {due₀ lapse₀ first₀ k : ℕ} {upto : ℕ} {rows₁ : List RunRow} {lapses₁ : List ℕ} {due lapse₁ first₁ i : ℕ} {rows₂ : List RunRow} {lapses₂ : List ℕ} {lapse₂ first seek₀ seek looked : ℕ} {rows : List RunRow} {lapses : List ℕ} {lapse j : ℕ}
+    → Going start list count rows₀ clock lapses₀ due₀ lapse₀ first₀ k
+    → k < length list
+    → upto ≡ cond (eqb (dueIn clock due₀) 0) count 0
+    → Releasing clock count rows₀ upto rows₁ lapses₁ due lapse₁ first₁ i
+    → upto ≤ i
+    → Serving clock count (getD list k 0) seek₀ rows₁ rows₂ lapses₂ due lapse₂ first seek
+    → seek ≤ first
+    → looked ≡ cond (eqb (dueIn clock lapse₂) 0) count 0
+    → Aging clock count rows₂ due first looked rows lapses lapse j
+    → looked ≤ j
+    → Going start list count rows (tick clock) lapses due lapse first (k + 1)
+going-on {list = list} {count = count} {rows₀ = rows₀} {clock = clock} {k = k} {rows₁ = rows₁} {rows₂ = rows₂} {lapses₂ = lapses₂} {lapse₂ = lapse₂} {looked = looked} {rows = rows} {j = j} g h u r a s f v p b =
+    record {
+      kept = record { few = p .few; long = p .long; wide = p .wide; sized = omega arith; watched = λ n d z. p .later n d z (λ y. omega arith); idle = p .idle };
+      upTo = omega arith;
+      on = onward _ list count clock k rows₀ rows₁ rows₂ rows h (releasing-all r g u a) (serving-all s f ∙ ap (λ (m : ℕ). serveIn m rows₁) (s .sought))
+          (each-all (agedOf (tick clock)) (dueIn clock lapse₂) count looked j rows rows₂ v b (p .upTo) (p .same) (λ c n d z. rests-now clock (dueIn clock (getD lapses₂ n 0)) (getD rows₂ n d) (p .sized) (omega (arith, c, s .kept .watched n d z .soon)) (s .kept .watched n d z .rests)))
+          (g .on);
+      undue = p .undue;
+    }

@@ -2,7 +2,8 @@ pub mod ThreeSteps
 pub mod Turns
 pub mod Stepped
 pub mod Found
-pub mod CalmSlots
+pub mod EachRow
+pub mod Ahead
 pub mod Going
 pub mod Firsts
 pub mod PlanCount

@@ -1,17 +1,44 @@
 // Many slots of a run in one call.
 ghost use mathlib.Core.Path.{_≡_};
+ghost use mathlib.Core.Bool.{cond};
 ghost use Prim.Native.Nat.{_≤_};
+ghost use lib.Dec.{eqb};
+ghost use Rattle.rules.specs.RunState.{dueIn};
 ghost use Rattle.rules.specs.Run.{slotsOf, advancedOf};
-use super::calm::calm_row;
+use super::lapses::lapse_of;
 use super::slots::not_run_state;
+use rules::ROWS;
 use rules::Run;
 use rules::Stepped;
 use rules::Verdict;
-use stepping::LAST;
 
-// The slots one after the other, without a look at every row in each. `calm` says for how many slots to come nothing is released
-// and nothing lapses, and no row before `first` has work: in such a slot at most one row changes. One body over the local rows,
-// so that no run is copied within the loop.
+// The nearer of two clock values, from `clock` on.
+fn nearer(clock: u32, a: u32, b: u32) -> u32
+    ensures { λ r. ⌜ (dueIn clock r ≤ dueIn clock a) × (dueIn clock r ≤ dueIn clock b) ⌝ }
+{
+    if stepping::due_in(clock, a) < stepping::due_in(clock, b) {
+        a
+    } else {
+        b
+    }
+}
+
+// How many rows to look at, none of which needs a look before the clock value `until`.
+fn looks(clock: u32, until: u32, count: usize) -> usize
+    ensures { λ r. ⌜ r ≡ cond (eqb (dueIn clock until) 0) count 0 ⌝ }
+{
+    if stepping::due_in(clock, until) == 0 {
+        count
+    } else {
+        0
+    }
+}
+
+// The slots one after the other, each in the three steps of document 01, without a look at every row in each. Nothing is released
+// before the clock value `due`, nothing lapses before `lapse`, nor at a row before its own value in `lapses`, and no row before
+// `first` has work. A clock value that is reached is the farthest of all from the next slot on, so that each row looked at brings it
+// nearer. One body over the local rows, so that no run is copied within the loop. Each step is a loop over as many rows as it needs,
+// none where nothing falls: what follows a loop is proved once, what follows an `if` once for each way through it.
 fn advance_rows(run: Run, stolen: &[u8]) -> Run
     requires { ⌜ run .count ≤ 64 ⌝ }
     ensures { λ r. ⌜ r ≡ slotsOf run (now (stolen .entry)) ⌝ }
@@ -19,55 +46,61 @@ fn advance_rows(run: Run, stolen: &[u8]) -> Run
     let count = run.count;
     let mut rows = run.rows;
     let mut clock = run.clock;
-    let mut calm: u32 = 0;
+    let mut lapses = [clock; ROWS];
+    let mut due = clock;
+    let mut lapse = clock;
     let mut first: usize = 0;
     let mut k: usize = 0;
     'slots: while k < stolen.len() {
         let after = std::num::wrapping_add_u32(clock, 1);
-        let mut free = stolen[k] == 0;
-        if calm == 0 {
-            calm = LAST;
-            first = 0;
-            'pass: for i in 0..count {
-                let row = rows[i];
-                if stepping::unmoved(clock, free, row) {
-                    calm = calm_row(calm, after, row);
-                    continue;
-                }
-                let r = stepping::released(clock, row);
-                let s = stepping::worked(free, r);
-                free = stepping::still_free(free, r);
-                let t = stepping::aged(after, s);
-                rows[i] = t;
-                calm = calm_row(calm, after, t);
+        let releases = looks(clock, due, count);
+        'release: for i in 0..releases {
+            let row = rows[i];
+            if row.next != clock {
+                due = nearer(after, due, row.next);
+                continue;
             }
-            clock = after;
-            k = k + 1;
-            continue 'slots;
+            let r = stepping::released(clock, row);
+            rows[i] = r;
+            due = nearer(after, due, r.next);
+            let own = lapse_of(clock, r);
+            lapses[i] = own;
+            lapse = nearer(clock, lapse, own);
+            first = if i < first { i } else { first };
         }
-        calm = calm - 1;
+        let mut seek = if stolen[k] == 0 { count } else { 0 };
+        'serve: while first < seek {
+            let row = rows[first];
+            if row.left == 0 {
+                first = first + 1;
+                continue;
+            }
+            seek = 0;
+            if 1 < row.left {
+                rows[first].left = row.left - 1;
+                continue;
+            }
+            let s = stepping::served(row);
+            rows[first] = s;
+            let own = lapse_of(clock, s);
+            lapses[first] = own;
+            lapse = nearer(clock, lapse, own);
+        }
+        let looked = looks(clock, lapse, count);
+        'age: for i in 0..looked {
+            let until = lapses[i];
+            if stepping::due_in(clock, until) != 0 {
+                lapse = nearer(after, lapse, until);
+                continue;
+            }
+            let t = stepping::aged(after, rows[i]);
+            rows[i] = t;
+            let own = lapse_of(after, t);
+            lapses[i] = own;
+            lapse = nearer(after, lapse, own);
+        }
         clock = after;
         k = k + 1;
-        if !free {
-            continue 'slots;
-        }
-        'seek: while first < count {
-            if rows[first].left != 0 {
-                break 'seek;
-            }
-            first = first + 1;
-        }
-        if count <= first {
-            continue 'slots;
-        }
-        let row = rows[first];
-        if 1 < row.left {
-            rows[first].left = row.left - 1;
-            continue 'slots;
-        }
-        let t = stepping::aged(after, stepping::served(row));
-        rows[first] = t;
-        calm = calm_row(calm, after, t);
     }
     Run { clock, count, rows }
 }

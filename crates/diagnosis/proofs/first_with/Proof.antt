@@ -3,9 +3,6 @@ use Prim.Native.Nat.{_-_, _≤_}
 use borrow.Author.Needs.{needs}
 use Rattle.diagnosis.proofs.first_with.Statement.{statement}
 use Rattle.diagnosis.proofs.first_with.Tie as tie
-use Rattle.diagnosis.proofs.first_with.Reads as reads
-use Rattle.diagnosis.proofs.first_with.Lts as lts
-use Rattle.diagnosis.proofs.row_at.Reads as row-at-reads
 
 abbrev Inv-loop : tie.InvT-loop
 Inv-loop bytes sheet place id k₀ k = k ≤ place

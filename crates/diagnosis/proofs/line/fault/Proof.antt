@@ -4,13 +4,6 @@ use lib.ListN.{length}
 use borrow.Author.Needs.{needs}
 use Rattle.diagnosis.proofs.line.fault.Statement.{statement}
 use Rattle.diagnosis.proofs.line.fault.Tie as tie
-use Rattle.diagnosis.proofs.line.fault.Reads as reads
-use Rattle.diagnosis.proofs.line.fault.Lts as lts
-use Rattle.diagnosis.proofs.line.cause.Reads as cause-reads
-use Rattle.diagnosis.proofs.line.has_mark.Reads as has-mark-reads
-use Rattle.diagnosis.proofs.line.nothing_seen.Reads as nothing-seen-reads
-use Rattle.diagnosis.proofs.line.seen_after.Reads as seen-after-reads
-use Rattle.diagnosis.proofs.sheet.line_start.Reads as line-start-reads
 
 abbrev Inv-loop : tie.InvT-loop
 Inv-loop bytes line seen₀ ended₀ at₀ seen ended at = at ≤ length bytes

@@ -3,9 +3,6 @@ use Prim.Native.Nat.{_-_, _≤_}
 use borrow.Author.Needs.{needs}
 use Rattle.diagnosis.proofs.sheet.line_count.Statement.{statement}
 use Rattle.diagnosis.proofs.sheet.line_count.Tie as tie
-use Rattle.diagnosis.proofs.sheet.line_count.Reads as reads
-use Rattle.diagnosis.proofs.sheet.line_count.Lts as lts
-use Rattle.std.proofs.num.wrapping_add_u64.Reads as wrapping-add-u64-reads
 
 abbrev Inv-loop : tie.InvT-loop
 Inv-loop bytes count₀ open₀ i₀ i-end count «open» i = i ≤ i-end

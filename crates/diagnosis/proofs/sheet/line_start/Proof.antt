@@ -4,8 +4,6 @@ use lib.ListN.{length}
 use borrow.Author.Needs.{needs}
 use Rattle.diagnosis.proofs.sheet.line_start.Statement.{statement}
 use Rattle.diagnosis.proofs.sheet.line_start.Tie as tie
-use Rattle.diagnosis.proofs.sheet.line_start.Reads as reads
-use Rattle.diagnosis.proofs.sheet.line_start.Lts as lts
 
 abbrev Inv-loop : tie.InvT-loop
 Inv-loop bytes line left₀ at₀ left at = at ≤ length bytes

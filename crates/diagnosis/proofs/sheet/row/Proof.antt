@@ -4,10 +4,6 @@ use lib.ListN.{length}
 use borrow.Author.Needs.{needs}
 use Rattle.diagnosis.proofs.sheet.row.Statement.{statement}
 use Rattle.diagnosis.proofs.sheet.row.Tie as tie
-use Rattle.diagnosis.proofs.sheet.row.Reads as reads
-use Rattle.diagnosis.proofs.sheet.row.Lts as lts
-use Rattle.diagnosis.proofs.sheet.fields_after.Reads as fields-after-reads
-use Rattle.diagnosis.proofs.sheet.line_start.Reads as line-start-reads
 
 abbrev Inv-loop : tie.InvT-loop
 Inv-loop bytes line fields₀ at₀ fields at = at ≤ length bytes

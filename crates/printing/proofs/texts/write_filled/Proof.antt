@@ -3,12 +3,6 @@ use Prim.Native.Nat.{_-_, _≤_}
 use borrow.Author.Needs.{needs}
 use Rattle.printing.proofs.texts.write_filled.Statement.{statement}
 use Rattle.printing.proofs.texts.write_filled.Tie as tie
-use Rattle.printing.proofs.texts.write_filled.Reads as reads
-use Rattle.printing.proofs.texts.write_filled.Lts as lts
-use Rattle.io.proofs.print_decimal.Reads as print-decimal-reads
-use Rattle.printing.proofs.texts.number_at.Reads as number-at-reads
-use Rattle.printing.proofs.texts.write_part.Reads as write-part-reads
-use Rattle.std.proofs.num.wrapping_add_usize.Reads as wrapping-add-usize-reads
 
 abbrev Inv-loop : tie.InvT-loop
 Inv-loop fd text numbers from₀ k₀ i₀ i-end from k i = i ≤ i-end

@@ -3,8 +3,6 @@ use Prim.Native.Nat.{_-_, _≤_}
 use borrow.Author.Needs.{needs}
 use Rattle.replay.proofs.incidents.closed.Statement.{statement}
 use Rattle.replay.proofs.incidents.closed.Tie as tie
-use Rattle.replay.proofs.incidents.closed.Reads as reads
-use Rattle.replay.proofs.incidents.closed.Lts as lts
 
 abbrev Inv-loop : tie.InvT-loop
 Inv-loop all row slot rows₀ k₀ rows k = k ≤ 20

@@ -3,9 +3,6 @@ use Prim.Native.Nat.{_-_, _≤_}
 use borrow.Author.Needs.{needs}
 use Rattle.replay.proofs.incidents.followed.Statement.{statement}
 use Rattle.replay.proofs.incidents.followed.Tie as tie
-use Rattle.replay.proofs.incidents.followed.Reads as reads
-use Rattle.replay.proofs.incidents.followed.Lts as lts
-use Rattle.replay.proofs.incidents.followed_row.Reads as followed-row-reads
 
 abbrev Inv-loop : tie.InvT-loop
 Inv-loop before after now₀ i₀ now i = i ≤ 64

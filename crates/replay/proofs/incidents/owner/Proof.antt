@@ -3,9 +3,6 @@ use Prim.Native.Nat.{_-_, _≤_}
 use borrow.Author.Needs.{needs}
 use Rattle.replay.proofs.incidents.owner.Statement.{statement}
 use Rattle.replay.proofs.incidents.owner.Tie as tie
-use Rattle.replay.proofs.incidents.owner.Reads as reads
-use Rattle.replay.proofs.incidents.owner.Lts as lts
-use Rattle.replay.proofs.tallies.ran.Reads as ran-reads
 
 abbrev Inv-loop : tie.InvT-loop
 Inv-loop taken before after owner₀ i₀ owner i = i ≤ 64

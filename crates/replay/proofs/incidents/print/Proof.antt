@@ -3,12 +3,6 @@ use Prim.Native.Nat.{_-_, _≤_}
 use borrow.Author.Needs.{needs}
 use Rattle.replay.proofs.incidents.print.Statement.{statement}
 use Rattle.replay.proofs.incidents.print.Tie as tie
-use Rattle.replay.proofs.incidents.print.Reads as reads
-use Rattle.replay.proofs.incidents.print.Lts as lts
-use Rattle.printing.proofs.byte.Reads as byte-reads
-use Rattle.replay.proofs.incidents.print_one.Reads as print-one-reads
-use Rattle.replay.proofs.incidents.say.Reads as say-reads
-use Rattle.replay.proofs.incidents.short.Reads as short-reads
 
 abbrev Inv-loop : tie.InvT-loop
 Inv-loop run all slots owners rows k₀ k = k ≤ 20

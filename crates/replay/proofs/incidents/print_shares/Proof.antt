@@ -3,12 +3,6 @@ use Prim.Native.Nat.{_-_, _≤_}
 use borrow.Author.Needs.{needs}
 use Rattle.replay.proofs.incidents.print_shares.Statement.{statement}
 use Rattle.replay.proofs.incidents.print_shares.Tie as tie
-use Rattle.replay.proofs.incidents.print_shares.Reads as reads
-use Rattle.replay.proofs.incidents.print_shares.Lts as lts
-use Rattle.printing.proofs.byte.Reads as byte-reads
-use Rattle.replay.proofs.incidents.print_share.Reads as print-share-reads
-use Rattle.replay.proofs.incidents.say.Reads as say-reads
-use Rattle.replay.proofs.tallies.wide.Reads as wide-reads
 
 abbrev Inv-loop : tie.InvT-loop
 Inv-loop run counts i₀ i = i ≤ 65

@@ -3,10 +3,6 @@ use Prim.Native.Nat.{_-_, _≤_}
 use borrow.Author.Needs.{needs}
 use Rattle.replay.proofs.incidents.shares.Statement.{statement}
 use Rattle.replay.proofs.incidents.shares.Tie as tie
-use Rattle.replay.proofs.incidents.shares.Reads as reads
-use Rattle.replay.proofs.incidents.shares.Lts as lts
-use Rattle.replay.proofs.incidents.place_of.Reads as place-of-reads
-use Rattle.std.proofs.num.wrapping_add_u32.Reads as wrapping-add-u32-reads
 
 abbrev Inv-loop : tie.InvT-loop
 Inv-loop owners from to counts₀ k₀ counts k = k ≤ 1000000

@@ -3,19 +3,6 @@ use Prim.Native.Nat.{_-_, _≤_}
 use borrow.Author.Needs.{needs}
 use Rattle.replay.proofs.story.run_through.Statement.{statement}
 use Rattle.replay.proofs.story.run_through.Tie as tie
-use Rattle.replay.proofs.story.run_through.Reads as reads
-use Rattle.replay.proofs.story.run_through.Lts as lts
-use Rattle.replay.proofs.incidents.followed.Reads as followed-reads
-use Rattle.replay.proofs.incidents.no_incidents.Reads as no-incidents-reads
-use Rattle.replay.proofs.incidents.note.Reads as note-reads
-use Rattle.replay.proofs.incidents.owner.Reads as owner-reads
-use Rattle.replay.proofs.story.counted.Reads as counted-reads
-use Rattle.replay.proofs.story.draw.Reads as draw-reads
-use Rattle.replay.proofs.story.is_stolen.Reads as is-stolen-reads
-use Rattle.replay.proofs.story.place_after.Reads as place-after-reads
-use Rattle.replay.proofs.tallies.no_tallies.Reads as no-tallies-reads
-use Rattle.replay.proofs.tallies.tallied.Reads as tallied-reads
-use Rattle.running.proofs.slot.Reads as slot-reads
 
 abbrev Inv-loop : tie.InvT-loop
 Inv-loop slots first pattern owners₀ jobs₀ values₀ marks₀ now₀ all₀ stale₀ stolen₀ at₀ k₀ owners jobs values marks now all stale stolen at k = k ≤ slots

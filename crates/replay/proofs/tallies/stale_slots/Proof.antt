@@ -3,10 +3,6 @@ use Prim.Native.Nat.{_-_, _≤_}
 use borrow.Author.Needs.{needs}
 use Rattle.replay.proofs.tallies.stale_slots.Statement.{statement}
 use Rattle.replay.proofs.tallies.stale_slots.Tie as tie
-use Rattle.replay.proofs.tallies.stale_slots.Reads as reads
-use Rattle.replay.proofs.tallies.stale_slots.Lts as lts
-use Rattle.replay.proofs.tallies.wide.Reads as wide-reads
-use Rattle.std.proofs.num.wrapping_add_u64.Reads as wrapping-add-u64-reads
 
 abbrev Inv-loop : tie.InvT-loop
 Inv-loop rows sum₀ i₀ sum i = i ≤ 64

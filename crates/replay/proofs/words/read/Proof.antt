@@ -3,11 +3,6 @@ use Prim.Native.Nat.{_-_, _≤_}
 use borrow.Author.Needs.{needs}
 use Rattle.replay.proofs.words.read.Statement.{statement}
 use Rattle.replay.proofs.words.read.Tie as tie
-use Rattle.replay.proofs.words.read.Reads as reads
-use Rattle.replay.proofs.words.read.Lts as lts
-use Rattle.os.proofs.arg_count.Reads as arg-count-reads
-use Rattle.replay.proofs.words.no_words.Reads as no-words-reads
-use Rattle.replay.proofs.words.with_word.Reads as with-word-reads
 
 abbrev Inv-loop : tie.InvT-loop
 Inv-loop count words₀ k₀ words k = k ≤ 16

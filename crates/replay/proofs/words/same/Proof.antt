@@ -5,8 +5,6 @@ use lib.ListN.{length}
 use borrow.Author.Needs.{needs}
 use Rattle.replay.proofs.words.same.Statement.{statement}
 use Rattle.replay.proofs.words.same.Tie as tie
-use Rattle.replay.proofs.words.same.Reads as reads
-use Rattle.replay.proofs.words.same.Lts as lts
 
 abbrev Inv-loop : tie.InvT-loop
 Inv-loop word name i₀ i-end i = (i ≤ i-end) × (i-end ≡ length word) × (length name ≡ length word)

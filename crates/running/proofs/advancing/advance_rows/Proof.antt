@@ -1,274 +1,318 @@
--- `running::advancing::advance_rows` meets its contract: between slots `Going` holds, and between the rows of a slot that looks at all of them `Passing`.
+-- `running::advancing::advance_rows` meets its contract: between slots `Going` holds, within a slot `Releasing`, `Serving` and `Aging`.
 -- Assumes nothing.
 use Prim.Native.Nat.{_-_}
-use mathlib.Core.Path.{refl, sym, _∙_}
+use mathlib.Core.Path.{_∙_}
 use mathlib.Core.Logic.{⊎-elim}
 use native.Mathlib.Omega.{arith}
-use lib.ListN.{length, length-map}
-use Rattle.stepping.proofs.OneRow.{passed-is}
-use Rattle.running.proofs.CalmSlots.{AllIdle}
-use Rattle.running.proofs.Going.{Passing, passing-none, passing-unmoved, passing-stored, Going, going-none, going-pass, going-stolen, going-unused, going-less, going-done, idle-more, slots-end}
 use borrow.Author.Needs.{needs}
+use borrow.Author.Tests.{eq-eqb, ne-eqb}
+use lib.ListN.{length, getD, length-map}
+use Rattle.rules.specs.Run.{noRunRow}
+use Rattle.running.proofs.Going.{Going, going-none, going-on, slots-end, Releasing, releasing-none, releasing-same, releasing-stored, Serving, serving-none, serving-idle, serving-less, serving-used, Aging, aging-none, aging-same, aging-stored}
 use Rattle.running.proofs.advancing.advance_rows.Statement.{statement}
 use Rattle.running.proofs.advancing.advance_rows.Tie as tie
 
-abbrev Inv-pass : tie.InvT-pass
-Inv-pass stolen count rows₀ clock calm₀ first k after free₀ i₀ rows calm free i = Passing clock count free₀ rows₀ rows calm free i
+abbrev Inv-release : tie.InvT-release
+Inv-release stolen count rows₀ clock lapses₀ due₀ lapse₀ first₀ k after releases i₀ rows lapses due lapse first i = Releasing clock count rows₀ releases rows lapses due lapse first i
 
-abbrev μ-pass : tie.MeasureT-pass
-μ-pass stolen count rows₀ clock calm₀ first k after free₀ i₀ rows calm free i = count - i
+abbrev μ-release : tie.MeasureT-release
+μ-release stolen count rows₀ clock lapses₀ due₀ lapse₀ first₀ k after releases i₀ rows lapses due lapse first i = releases - i
 
-abbrev Inv-seek : tie.InvT-seek
-Inv-seek stolen count rows clock calm first₀ k after free first = AllIdle first rows
+abbrev Inv-serve : tie.InvT-serve
+Inv-serve stolen count rows₀ clock lapses₀ due lapse₀ first₀ k after releases seek₀ rows lapses lapse first seek = Serving clock count (getD stolen k 0) seek₀ rows₀ rows lapses due lapse first seek
 
-abbrev μ-seek : tie.MeasureT-seek
-μ-seek stolen count rows clock calm first₀ k after free first = count - first
+abbrev μ-serve : tie.MeasureT-serve
+μ-serve stolen count rows₀ clock lapses₀ due lapse₀ first₀ k after releases seek₀ rows lapses lapse first seek = seek - first
+
+abbrev Inv-age : tie.InvT-age
+Inv-age stolen count rows₀ clock lapses₀ due lapse₀ first k after releases seek looked i₀ rows lapses lapse i = Aging clock count rows₀ due first looked rows lapses lapse i
+
+abbrev μ-age : tie.MeasureT-age
+μ-age stolen count rows₀ clock lapses₀ due lapse₀ first k after releases seek looked i₀ rows lapses lapse i = looked - i
 
 abbrev Inv-slots : tie.InvT-slots
-Inv-slots stolen count rows₀ clock₀ calm₀ first₀ k₀ rows clock calm first k = Going (record { clock = clock₀; count = count; rows = rows₀ }) stolen count rows clock calm first k
+Inv-slots stolen count rows₀ clock₀ lapses₀ due₀ lapse₀ first₀ k₀ rows clock lapses due lapse first k = Going (record { clock = clock₀; count = count; rows = rows₀ }) stolen count rows clock lapses due lapse first k
 
 abbrev μ-slots : tie.MeasureT-slots
-μ-slots stolen count rows₀ clock₀ calm₀ first₀ k₀ rows clock calm first k = length stolen - k
+μ-slots stolen count rows₀ clock₀ lapses₀ due₀ lapse₀ first₀ k₀ rows clock lapses due lapse first k = length stolen - k
 
-slots-holds : tie.Need-slots-holds Inv-pass μ-pass Inv-seek μ-seek Inv-slots μ-slots
-slots-holds c = going-none (c .before .before .pre) (simp length-map at (c .before .before .good .0 .1 .1 .1 .1 .0 .1 .0 .1))
+slots-holds : tie.Need-slots-holds Inv-release μ-release Inv-serve μ-serve Inv-age μ-age Inv-slots μ-slots
+slots-holds c = going-none (c .before .before .pre) (simp length-map at (c .before .before .good .0 .1 .1 .1 .1 .0 .1 .0 .1)) (c .before .before .good .0 .1 .1 .0 .1)
 
-wrapping-add-u32-requires :
-    tie.Need-wrapping-add-u32-requires Inv-pass μ-pass Inv-seek μ-seek Inv-slots μ-slots
+wrapping-add-u32-requires : tie.Need-wrapping-add-u32-requires Inv-release μ-release Inv-serve μ-serve Inv-age μ-age Inv-slots μ-slots
 wrapping-add-u32-requires c κs = search needs
 
-shared-slice-read-free :
-    tie.Need-shared-slice-read-free Inv-pass μ-pass Inv-seek μ-seek Inv-slots μ-slots
-shared-slice-read-free c = search needs
+looks-requires : tie.Need-looks-requires Inv-release μ-release Inv-serve μ-serve Inv-age μ-age Inv-slots μ-slots
+looks-requires c κs = search needs
 
-pass-holds : tie.Need-pass-holds Inv-pass μ-pass Inv-seek μ-seek Inv-slots μ-slots
-pass-holds c = passing-none (c .before .before .before .before .slots .inv .few) (c .before .before .before .before .slots .inv .long)
+release-holds : tie.Need-release-holds Inv-release μ-release Inv-serve μ-serve Inv-age μ-age Inv-slots μ-slots
+release-holds c = releasing-none (c .before .before .before .slots .inv) (c .looks .ensures)
 
-mul-row : tie.Need-mul-row Inv-pass μ-pass Inv-seek μ-seek Inv-slots μ-slots
+mul-row : tie.Need-mul-row Inv-release μ-release Inv-serve μ-serve Inv-age μ-age Inv-slots μ-slots
 mul-row c = search needs
 
-array-copy-out-row : tie.Need-array-copy-out-row Inv-pass μ-pass Inv-seek μ-seek Inv-slots μ-slots
+array-copy-out-row : tie.Need-array-copy-out-row Inv-release μ-release Inv-serve μ-serve Inv-age μ-age Inv-slots μ-slots
 array-copy-out-row c = search needs
 
-unmoved-requires : tie.Need-unmoved-requires Inv-pass μ-pass Inv-seek μ-seek Inv-slots μ-slots
-unmoved-requires c κs = search needs
+nearer-requires : tie.Need-nearer-requires Inv-release μ-release Inv-serve μ-serve Inv-age μ-age Inv-slots μ-slots
+nearer-requires c κs = search needs
 
-calm-row-requires : tie.Need-calm-row-requires Inv-pass μ-pass Inv-seek μ-seek Inv-slots μ-slots
-calm-row-requires c κs = search needs
-
-add-i : tie.Need-add-i Inv-pass μ-pass Inv-seek μ-seek Inv-slots μ-slots
+add-i : tie.Need-add-i Inv-release μ-release Inv-serve μ-serve Inv-age μ-age Inv-slots μ-slots
 add-i c = search needs
 
-pass-less : tie.Need-pass-less Inv-pass μ-pass Inv-seek μ-seek Inv-slots μ-slots
-pass-less c = search needs
+release-less : tie.Need-release-less Inv-release μ-release Inv-serve μ-serve Inv-age μ-age Inv-slots μ-slots
+release-less c = search needs
 
-pass-again : tie.Need-pass-again Inv-pass μ-pass Inv-seek μ-seek Inv-slots μ-slots
-pass-again c =
-    passing-unmoved (c .before .before .before .before .before .pass .inv) _ (c .before .before .before .before .pass-test .taken) _ (sym (c .before .before .unmoved .ensures) ∙ c .before .if2 .taken)
-    (c .calm-row .ensures .0) (rw (c .before .before .before .before .before .before .before .before .wrapping-add-u32 .ensures) at (c .calm-row .ensures .1))
+release-again : tie.Need-release-again Inv-release μ-release Inv-serve μ-serve Inv-age μ-age Inv-slots μ-slots
+release-again c = releasing-same (c .before .before .before .before .before .release .inv) _ (c .before .before .before .before .release-test .taken) _ (rw (c .before .before .before .before .before .before .before .wrapping-add-u32 .ensures) at (c .nearer .ensures .0)) (c .before .if1 .taken) (rw (c .before .before .before .before .before .before .before .wrapping-add-u32 .ensures) at (c .nearer .ensures .1))
 
-released-requires : tie.Need-released-requires Inv-pass μ-pass Inv-seek μ-seek Inv-slots μ-slots
+released-requires : tie.Need-released-requires Inv-release μ-release Inv-serve μ-serve Inv-age μ-age Inv-slots μ-slots
 released-requires c κs = search needs
 
-worked-requires : tie.Need-worked-requires Inv-pass μ-pass Inv-seek μ-seek Inv-slots μ-slots
-worked-requires c κs = search needs
+mul-rows : tie.Need-mul-rows Inv-release μ-release Inv-serve μ-serve Inv-age μ-age Inv-slots μ-slots
+mul-rows c = search needs
 
-still-free-requires :
-    tie.Need-still-free-requires Inv-pass μ-pass Inv-seek μ-seek Inv-slots μ-slots
-still-free-requires c κs = search needs
+array-set-from-rows : tie.Need-array-set-from-rows Inv-release μ-release Inv-serve μ-serve Inv-age μ-age Inv-slots μ-slots
+array-set-from-rows c = search needs
 
-aged-requires : tie.Need-aged-requires Inv-pass μ-pass Inv-seek μ-seek Inv-slots μ-slots
-aged-requires c κs = search needs
+nearer-requires-2 : tie.Need-nearer-requires-2 Inv-release μ-release Inv-serve μ-serve Inv-age μ-age Inv-slots μ-slots
+nearer-requires-2 c κs = search needs
 
-mul-rows : tie.Need-mul-rows Inv-pass μ-pass Inv-seek μ-seek Inv-slots μ-slots
-mul-rows c = search (needs, c .before .before .before .before .before .before .before .before .pass .inv .passed .few, c .before .before .before .before .before .before .before .pass-test .taken)
+lapse-of-requires : tie.Need-lapse-of-requires Inv-release μ-release Inv-serve μ-serve Inv-age μ-age Inv-slots μ-slots
+lapse-of-requires c κs = search needs
 
-array-set-from-rows :
-    tie.Need-array-set-from-rows Inv-pass μ-pass Inv-seek μ-seek Inv-slots μ-slots
-array-set-from-rows c = search (needs, c .before .before .before .before .before .before .before .before .pass .inv .passed .few, c .before .before .before .before .before .before .before .pass-test .taken)
+mul-lapses : tie.Need-mul-lapses Inv-release μ-release Inv-serve μ-serve Inv-age μ-age Inv-slots μ-slots
+mul-lapses c = search needs
 
-calm-row-requires-2 :
-    tie.Need-calm-row-requires-2 Inv-pass μ-pass Inv-seek μ-seek Inv-slots μ-slots
-calm-row-requires-2 c κs = search needs
+array-write-lapses : tie.Need-array-write-lapses Inv-release μ-release Inv-serve μ-serve Inv-age μ-age Inv-slots μ-slots
+array-write-lapses c = search needs
 
-add-i-2 : tie.Need-add-i-2 Inv-pass μ-pass Inv-seek μ-seek Inv-slots μ-slots
-add-i-2 c = search (needs, c .before .before .before .before .before .before .before .before .before .pass .inv .passed .few, c .before .before .before .before .before .before .before .before .pass-test .taken)
+nearer-requires-3 : tie.Need-nearer-requires-3 Inv-release μ-release Inv-serve μ-serve Inv-age μ-age Inv-slots μ-slots
+nearer-requires-3 c κs = search needs
 
-pass-less-2 : tie.Need-pass-less-2 Inv-pass μ-pass Inv-seek μ-seek Inv-slots μ-slots
-pass-less-2 c = search needs
+add-i-2 : tie.Need-add-i-2 Inv-release μ-release Inv-serve μ-serve Inv-age μ-age Inv-slots μ-slots
+add-i-2 c = search needs
 
-pass-again-2 : tie.Need-pass-again-2 Inv-pass μ-pass Inv-seek μ-seek Inv-slots μ-slots
-pass-again-2 c =
-    let w = c .before .before .before .before .before .before .before .before .before .before .before .before .wrapping-add-u32 .ensures in
-    let r = c .before .before .before .before .released .ensures in
-    rw (c .before .before .still-free .ensures, r)
-    (passing-stored (c .before .before .before .before .before .before .before .before .before .pass .inv) _ (c .before .before .before .before .before .before .before .before .pass-test .taken) _ _ (passed-is _ _ _ w r (c .before .before .before .worked .ensures) (c .before .aged .ensures))
-    (c .calm-row2 .ensures .0) (rw w at (c .calm-row2 .ensures .1)))
+release-less-2 : tie.Need-release-less-2 Inv-release μ-release Inv-serve μ-serve Inv-age μ-age Inv-slots μ-slots
+release-less-2 c = search needs
 
-add-k : tie.Need-add-k Inv-pass μ-pass Inv-seek μ-seek Inv-slots μ-slots
-add-k c = search needs
+release-again-2 : tie.Need-release-again-2 Inv-release μ-release Inv-serve μ-serve Inv-age μ-age Inv-slots μ-slots
+release-again-2 c = releasing-stored (c .before .before .before .before .before .before .before .before .before .release .inv) _ (c .before .before .before .before .before .before .before .before .release-test .taken) _ (rw (c .before .before .before .before .before .before .before .before .before .before .before .wrapping-add-u32 .ensures) at (c .before .before .before .nearer2 .ensures .0)) _ _ _ _ (c .before .before .before .before .released .ensures) (rw (c .before .before .before .before .before .before .before .before .before .before .before .wrapping-add-u32 .ensures) at (c .before .before .before .nearer2 .ensures .1)) (c .before .before .lapse-of .ensures) (c .before .nearer3 .ensures .0) (c .before .nearer3 .ensures .1) (⊎-elim (λ u. omega (arith, u .0 .taken, u .1)) (λ u. omega (arith, u .1)) (c .if2 .came)) (⊎-elim (λ u. omega (arith, u .1)) (λ u. omega (arith, u .0 .left, u .1)) (c .if2 .came))
 
-slots-less : tie.Need-slots-less Inv-pass μ-pass Inv-seek μ-seek Inv-slots μ-slots
-slots-less c = search needs
+shared-slice-read-if3 : tie.Need-shared-slice-read-if3 Inv-release μ-release Inv-serve μ-serve Inv-age μ-age Inv-slots μ-slots
+shared-slice-read-if3 c = search needs
 
-slots-again : tie.Need-slots-again Inv-pass μ-pass Inv-seek μ-seek Inv-slots μ-slots
-slots-again c = rw (c .before .before .before .before .wrapping-add-u32 .ensures) (going-pass (c .before .before .before .before .before .before .slots .inv) (c .before .before .before .before .before .slots-test .taken) (c .before .pass .inv) (c .pass-test .left))
+serve-holds : tie.Need-serve-holds Inv-release μ-release Inv-serve μ-serve Inv-age μ-age Inv-slots μ-slots
+serve-holds c = serving-none (c .before .before .before .release .inv) (c .before .before .release-test .left) (⊎-elim (λ u. u .1 ∙ simp (eq-eqb _ _ (u .0 .taken))) (λ u. u .1 ∙ simp (ne-eqb _ _ (u .0 .left))) (c .if3 .came))
 
-sub-calm : tie.Need-sub-calm Inv-pass μ-pass Inv-seek μ-seek Inv-slots μ-slots
-sub-calm c = search needs
-
-add-k-2 : tie.Need-add-k-2 Inv-pass μ-pass Inv-seek μ-seek Inv-slots μ-slots
-add-k-2 c = search needs
-
-slots-less-2 : tie.Need-slots-less-2 Inv-pass μ-pass Inv-seek μ-seek Inv-slots μ-slots
-slots-less-2 c = search needs
-
-slots-again-2 : tie.Need-slots-again-2 Inv-pass μ-pass Inv-seek μ-seek Inv-slots μ-slots
-slots-again-2 c = rw (c .before .before .before .wrapping-add-u32 .ensures) (going-stolen (c .before .before .before .before .before .slots .inv) (c .before .before .before .before .slots-test .taken) (omega (arith, c .before .if1 .left)) (c .if3 .taken))
-
-seek-holds : tie.Need-seek-holds Inv-pass μ-pass Inv-seek μ-seek Inv-slots μ-slots
-seek-holds c = c .before .before .before .before .before .slots .inv .idle
-
-mul-if4 : tie.Need-mul-if4 Inv-pass μ-pass Inv-seek μ-seek Inv-slots μ-slots
-mul-if4 c = search needs
-
-element-copy-out-if4 :
-    tie.Need-element-copy-out-if4 Inv-pass μ-pass Inv-seek μ-seek Inv-slots μ-slots
-element-copy-out-if4 c = search needs
-
-add-first : tie.Need-add-first Inv-pass μ-pass Inv-seek μ-seek Inv-slots μ-slots
-add-first c = search needs
-
-seek-less : tie.Need-seek-less Inv-pass μ-pass Inv-seek μ-seek Inv-slots μ-slots
-seek-less c = search needs
-
-seek-again : tie.Need-seek-again Inv-pass μ-pass Inv-seek μ-seek Inv-slots μ-slots
-seek-again c =
-    let g = c .before .before .before .before .before .before .before .before .slots in
-    idle-more (g .rows) _ _ (omega (arith, c .before .seek-test .taken, g .inv .long, g .inv .few)) (c .before .before .seek .inv) (c .if4 .left)
-
-slots-less-3 : tie.Need-slots-less-3 Inv-pass μ-pass Inv-seek μ-seek Inv-slots μ-slots
-slots-less-3 c = search needs
-
-slots-again-3 : tie.Need-slots-again-3 Inv-pass μ-pass Inv-seek μ-seek Inv-slots μ-slots
-slots-again-3 c =
-    rw (c .before .before .before .before .before .before .wrapping-add-u32 .ensures)
-    (going-unused (c .before .before .before .before .before .before .before .before .slots .inv) (c .before .before .before .before .before .before .before .slots-test .taken) (omega (arith, c .before .before .before .before .if1 .left)) (c .before .before .before .if3 .left) (c .before .before .seek .inv) (c .if5 .taken))
-
-mul-row-2 : tie.Need-mul-row-2 Inv-pass μ-pass Inv-seek μ-seek Inv-slots μ-slots
+mul-row-2 : tie.Need-mul-row-2 Inv-release μ-release Inv-serve μ-serve Inv-age μ-age Inv-slots μ-slots
 mul-row-2 c = search needs
 
-array-copy-out-row-2 :
-    tie.Need-array-copy-out-row-2 Inv-pass μ-pass Inv-seek μ-seek Inv-slots μ-slots
+array-copy-out-row-2 : tie.Need-array-copy-out-row-2 Inv-release μ-release Inv-serve μ-serve Inv-age μ-age Inv-slots μ-slots
 array-copy-out-row-2 c = search needs
 
-sub-rows : tie.Need-sub-rows Inv-pass μ-pass Inv-seek μ-seek Inv-slots μ-slots
+add-first : tie.Need-add-first Inv-release μ-release Inv-serve μ-serve Inv-age μ-age Inv-slots μ-slots
+add-first c = search needs
+
+serve-less : tie.Need-serve-less Inv-release μ-release Inv-serve μ-serve Inv-age μ-age Inv-slots μ-slots
+serve-less c = search needs
+
+serve-again : tie.Need-serve-again Inv-release μ-release Inv-serve μ-serve Inv-age μ-age Inv-slots μ-slots
+serve-again c = serving-idle (c .before .before .before .before .serve .inv) _ (c .before .before .before .serve-test .taken) (c .if4 .taken)
+
+sub-rows : tie.Need-sub-rows Inv-release μ-release Inv-serve μ-serve Inv-age μ-age Inv-slots μ-slots
 sub-rows c = search needs
 
-mul-rows-2 : tie.Need-mul-rows-2 Inv-pass μ-pass Inv-seek μ-seek Inv-slots μ-slots
+mul-rows-2 : tie.Need-mul-rows-2 Inv-release μ-release Inv-serve μ-serve Inv-age μ-age Inv-slots μ-slots
 mul-rows-2 c = search needs
 
-way-write-given-rows :
-    tie.Need-way-write-given-rows Inv-pass μ-pass Inv-seek μ-seek Inv-slots μ-slots
+way-write-given-rows : tie.Need-way-write-given-rows Inv-release μ-release Inv-serve μ-serve Inv-age μ-age Inv-slots μ-slots
 way-write-given-rows c = search needs
 
-slots-less-4 : tie.Need-slots-less-4 Inv-pass μ-pass Inv-seek μ-seek Inv-slots μ-slots
-slots-less-4 c = search needs
+serve-less-2 : tie.Need-serve-less-2 Inv-release μ-release Inv-serve μ-serve Inv-age μ-age Inv-slots μ-slots
+serve-less-2 c = search needs
 
-slots-again-4 : tie.Need-slots-again-4 Inv-pass μ-pass Inv-seek μ-seek Inv-slots μ-slots
-slots-again-4 c =
-    rw (c .before .before .before .before .before .before .before .before .before .before .before .wrapping-add-u32 .ensures)
-    (going-less (c .before .before .before .before .before .before .before .before .before .before .before .before .before .slots .inv) (c .before .before .before .before .before .before .before .before .before .before .before .before .slots-test .taken) (omega (arith, c .before .before .before .before .before .before .before .before .before .if1 .left)) (c .before .before .before .before .before .before .before .before .if3 .left) (c .before .before .before .before .before .before .before .seek .inv) _ (c .before .before .before .before .before .if5 .left) (c .before .before .if6 .taken))
+serve-again-2 : tie.Need-serve-again-2 Inv-release μ-release Inv-serve μ-serve Inv-age μ-age Inv-slots μ-slots
+serve-again-2 c = serving-less (c .before .before .before .before .before .before .before .before .serve .inv) _ (c .before .before .before .before .before .before .before .serve-test .taken) (c .before .before .if5 .taken)
 
-served-requires : tie.Need-served-requires Inv-pass μ-pass Inv-seek μ-seek Inv-slots μ-slots
+served-requires : tie.Need-served-requires Inv-release μ-release Inv-serve μ-serve Inv-age μ-age Inv-slots μ-slots
 served-requires c κs = search needs
 
-aged-requires-2 : tie.Need-aged-requires-2 Inv-pass μ-pass Inv-seek μ-seek Inv-slots μ-slots
-aged-requires-2 c κs = search needs
+mul-rows-3 : tie.Need-mul-rows-3 Inv-release μ-release Inv-serve μ-serve Inv-age μ-age Inv-slots μ-slots
+mul-rows-3 c = search needs
 
-mul-rows-3 : tie.Need-mul-rows-3 Inv-pass μ-pass Inv-seek μ-seek Inv-slots μ-slots
-mul-rows-3 c = search (needs, c .before .before .before .before .before .before .before .before .before .before .before .before .before .slots .inv .few, c .before .before .before .before .before .if5 .left)
+array-set-from-rows-2 : tie.Need-array-set-from-rows-2 Inv-release μ-release Inv-serve μ-serve Inv-age μ-age Inv-slots μ-slots
+array-set-from-rows-2 c = search needs
 
-array-set-from-rows-2 :
-    tie.Need-array-set-from-rows-2 Inv-pass μ-pass Inv-seek μ-seek Inv-slots μ-slots
-array-set-from-rows-2 c = search (needs, c .before .before .before .before .before .before .before .before .before .before .before .before .before .slots .inv .few, c .before .before .before .before .before .if5 .left)
+lapse-of-requires-2 : tie.Need-lapse-of-requires-2 Inv-release μ-release Inv-serve μ-serve Inv-age μ-age Inv-slots μ-slots
+lapse-of-requires-2 c κs = search needs
 
-calm-row-requires-3 :
-    tie.Need-calm-row-requires-3 Inv-pass μ-pass Inv-seek μ-seek Inv-slots μ-slots
-calm-row-requires-3 c κs = search needs
+mul-lapses-2 : tie.Need-mul-lapses-2 Inv-release μ-release Inv-serve μ-serve Inv-age μ-age Inv-slots μ-slots
+mul-lapses-2 c = search needs
 
-slots-less-5 : tie.Need-slots-less-5 Inv-pass μ-pass Inv-seek μ-seek Inv-slots μ-slots
-slots-less-5 c = search (needs, c .before .before .before .before .before .before .before .before .before .before .before .before .before .slots-test .taken)
+array-write-lapses-2 : tie.Need-array-write-lapses-2 Inv-release μ-release Inv-serve μ-serve Inv-age μ-age Inv-slots μ-slots
+array-write-lapses-2 c = search needs
 
-slots-again-5 : tie.Need-slots-again-5 Inv-pass μ-pass Inv-seek μ-seek Inv-slots μ-slots
-slots-again-5 c =
-    let w = c .before .before .before .before .before .before .before .before .before .before .before .before .wrapping-add-u32 .ensures in
-    let work = ⊎-elim (λ u. absurd (omega (arith, u .left, c .before .before .before .before .before .before .if5 .left))) (λ u. u .1 .taken) (c .before .before .before .before .before .before .before .seek-test .came) in
-    rw w
-    (going-done (c .before .before .before .before .before .before .before .before .before .before .before .before .before .before .slots .inv) (c .before .before .before .before .before .before .before .before .before .before .before .before .before .slots-test .taken) (omega (arith, c .before .before .before .before .before .before .before .before .before .before .if1 .left)) (c .before .before .before .before .before .before .before .before .before .if3 .left) (c .before .before .before .before .before .before .before .before .seek .inv) _ _ _ (c .before .before .before .before .before .before .if5 .left) work
-    (c .before .aged2 .ensures ∙ rw (c .before .before .served .ensures, w) refl) (c .calm-row3 .ensures .0) (rw w at (c .calm-row3 .ensures .1)))
+nearer-requires-4 : tie.Need-nearer-requires-4 Inv-release μ-release Inv-serve μ-serve Inv-age μ-age Inv-slots μ-slots
+nearer-requires-4 c κs = search needs
 
-returns : tie.Need-returns Inv-pass μ-pass Inv-seek μ-seek Inv-slots μ-slots
+serve-less-3 : tie.Need-serve-less-3 Inv-release μ-release Inv-serve μ-serve Inv-age μ-age Inv-slots μ-slots
+serve-less-3 c = search needs
+
+serve-again-3 : tie.Need-serve-again-3 Inv-release μ-release Inv-serve μ-serve Inv-age μ-age Inv-slots μ-slots
+serve-again-3 c = serving-used (c .before .before .before .before .before .before .before .before .before .serve .inv) _ (c .before .before .before .before .before .before .before .before .serve-test .taken) _ _ _ (c .before .before .before .before .before .if4 .left) (c .before .before .served .ensures) (c .before .lapse-of2 .ensures) (c .nearer4 .ensures .0) (c .nearer4 .ensures .1)
+
+looks-requires-2 : tie.Need-looks-requires-2 Inv-release μ-release Inv-serve μ-serve Inv-age μ-age Inv-slots μ-slots
+looks-requires-2 c κs = search needs
+
+age-holds : tie.Need-age-holds Inv-release μ-release Inv-serve μ-serve Inv-age μ-age Inv-slots μ-slots
+age-holds c = aging-none (c .before .before .serve .inv) (c .looks2 .ensures)
+
+mul-until : tie.Need-mul-until Inv-release μ-release Inv-serve μ-serve Inv-age μ-age Inv-slots μ-slots
+mul-until c = search needs
+
+array-read-until : tie.Need-array-read-until Inv-release μ-release Inv-serve μ-serve Inv-age μ-age Inv-slots μ-slots
+array-read-until c = search needs
+
+due-in-requires : tie.Need-due-in-requires Inv-release μ-release Inv-serve μ-serve Inv-age μ-age Inv-slots μ-slots
+due-in-requires c κs = search needs
+
+nearer-requires-5 : tie.Need-nearer-requires-5 Inv-release μ-release Inv-serve μ-serve Inv-age μ-age Inv-slots μ-slots
+nearer-requires-5 c κs = search needs
+
+add-i-3 : tie.Need-add-i-3 Inv-release μ-release Inv-serve μ-serve Inv-age μ-age Inv-slots μ-slots
+add-i-3 c = search needs
+
+age-less : tie.Need-age-less Inv-release μ-release Inv-serve μ-serve Inv-age μ-age Inv-slots μ-slots
+age-less c = search needs
+
+age-again : tie.Need-age-again Inv-release μ-release Inv-serve μ-serve Inv-age μ-age Inv-slots μ-slots
+age-again c = aging-same (c .before .before .before .before .age .inv) noRunRow (c .before .before .before .age-test .taken) _ (rw (c .before .before .before .before .before .before .before .before .before .before .before .before .before .wrapping-add-u32 .ensures) at (c .nearer5 .ensures .0)) (rw (c .before .before .due-in .ensures) at (c .before .if6 .taken)) (rw (c .before .before .before .before .before .before .before .before .before .before .before .before .before .wrapping-add-u32 .ensures) at (c .nearer5 .ensures .1))
+
+mul-aged : tie.Need-mul-aged Inv-release μ-release Inv-serve μ-serve Inv-age μ-age Inv-slots μ-slots
+mul-aged c = search needs
+
+array-copy-out-aged : tie.Need-array-copy-out-aged Inv-release μ-release Inv-serve μ-serve Inv-age μ-age Inv-slots μ-slots
+array-copy-out-aged c = search needs
+
+aged-requires : tie.Need-aged-requires Inv-release μ-release Inv-serve μ-serve Inv-age μ-age Inv-slots μ-slots
+aged-requires c κs = search needs
+
+mul-rows-4 : tie.Need-mul-rows-4 Inv-release μ-release Inv-serve μ-serve Inv-age μ-age Inv-slots μ-slots
+mul-rows-4 c = search needs
+
+array-set-from-rows-3 : tie.Need-array-set-from-rows-3 Inv-release μ-release Inv-serve μ-serve Inv-age μ-age Inv-slots μ-slots
+array-set-from-rows-3 c = search needs
+
+lapse-of-requires-3 : tie.Need-lapse-of-requires-3 Inv-release μ-release Inv-serve μ-serve Inv-age μ-age Inv-slots μ-slots
+lapse-of-requires-3 c κs = search needs
+
+mul-lapses-3 : tie.Need-mul-lapses-3 Inv-release μ-release Inv-serve μ-serve Inv-age μ-age Inv-slots μ-slots
+mul-lapses-3 c = search needs
+
+array-write-lapses-3 : tie.Need-array-write-lapses-3 Inv-release μ-release Inv-serve μ-serve Inv-age μ-age Inv-slots μ-slots
+array-write-lapses-3 c = search needs
+
+nearer-requires-6 : tie.Need-nearer-requires-6 Inv-release μ-release Inv-serve μ-serve Inv-age μ-age Inv-slots μ-slots
+nearer-requires-6 c κs = search needs
+
+add-i-4 : tie.Need-add-i-4 Inv-release μ-release Inv-serve μ-serve Inv-age μ-age Inv-slots μ-slots
+add-i-4 c = search needs
+
+age-less-2 : tie.Need-age-less-2 Inv-release μ-release Inv-serve μ-serve Inv-age μ-age Inv-slots μ-slots
+age-less-2 c = search needs
+
+age-again-2 : tie.Need-age-again-2 Inv-release μ-release Inv-serve μ-serve Inv-age μ-age Inv-slots μ-slots
+age-again-2 c = aging-stored (c .before .before .before .before .before .before .before .age .inv) _ (c .before .before .before .before .before .before .age-test .taken) _ (rw (c .before .before .before .before .before .before .before .before .before .before .before .before .before .before .before .before .wrapping-add-u32 .ensures) at (c .nearer6 .ensures .0)) _ _ (rw (c .before .before .before .before .before .before .before .before .before .before .before .before .before .before .before .before .wrapping-add-u32 .ensures) at (c .before .before .aged .ensures)) (rw (c .before .before .before .before .before .before .before .before .before .before .before .before .before .before .before .before .wrapping-add-u32 .ensures) at (c .before .lapse-of3 .ensures)) (rw (c .before .before .before .before .before .before .before .before .before .before .before .before .before .before .before .before .wrapping-add-u32 .ensures) at (c .nearer6 .ensures .1))
+
+add-k : tie.Need-add-k Inv-release μ-release Inv-serve μ-serve Inv-age μ-age Inv-slots μ-slots
+add-k c = search needs
+
+slots-less : tie.Need-slots-less Inv-release μ-release Inv-serve μ-serve Inv-age μ-age Inv-slots μ-slots
+slots-less c = search needs
+
+slots-again : tie.Need-slots-again Inv-release μ-release Inv-serve μ-serve Inv-age μ-age Inv-slots μ-slots
+slots-again c = rw (c .before .before .before .before .before .before .before .before .before .before .wrapping-add-u32 .ensures) (going-on (c .before .before .before .before .before .before .before .before .before .before .before .before .slots .inv) (c .before .before .before .before .before .before .before .before .before .before .before .slots-test .taken) (c .before .before .before .before .before .before .before .before .before .looks .ensures) (c .before .before .before .before .before .before .before .before .release .inv) (c .before .before .before .before .before .before .before .release-test .left) (c .before .before .before .before .serve .inv) (c .before .before .before .serve-test .left) (c .before .before .looks2 .ensures) (c .before .age .inv) (c .age-test .left))
+
+returns : tie.Need-returns Inv-release μ-release Inv-serve μ-serve Inv-age μ-age Inv-slots μ-slots
 returns c = slots-end _ _ _ _ (c .slots-test .left) (c .before .slots .inv .on)
 
 pub advance-rows-spec : {M : Type 1} → statement M
 advance-rows-spec =
     tie.close
     (tie.spec
-    Inv-pass
-    μ-pass
-    Inv-seek
-    μ-seek
+    Inv-release
+    μ-release
+    Inv-serve
+    μ-serve
+    Inv-age
+    μ-age
     Inv-slots
     μ-slots
     slots-holds
     wrapping-add-u32-requires
-    shared-slice-read-free
-    pass-holds
+    looks-requires
+    release-holds
     mul-row
     array-copy-out-row
-    unmoved-requires
-    calm-row-requires
+    nearer-requires
     add-i
-    pass-less
-    pass-again
+    release-less
+    release-again
     released-requires
-    worked-requires
-    still-free-requires
-    aged-requires
     mul-rows
     array-set-from-rows
-    calm-row-requires-2
+    nearer-requires-2
+    lapse-of-requires
+    mul-lapses
+    array-write-lapses
+    nearer-requires-3
     add-i-2
-    pass-less-2
-    pass-again-2
-    add-k
-    slots-less
-    slots-again
-    sub-calm
-    add-k-2
-    slots-less-2
-    slots-again-2
-    seek-holds
-    mul-if4
-    element-copy-out-if4
-    add-first
-    seek-less
-    seek-again
-    slots-less-3
-    slots-again-3
+    release-less-2
+    release-again-2
+    shared-slice-read-if3
+    serve-holds
     mul-row-2
     array-copy-out-row-2
+    add-first
+    serve-less
+    serve-again
     sub-rows
     mul-rows-2
     way-write-given-rows
-    slots-less-4
-    slots-again-4
+    serve-less-2
+    serve-again-2
     served-requires
-    aged-requires-2
     mul-rows-3
     array-set-from-rows-2
-    calm-row-requires-3
-    slots-less-5
-    slots-again-5
+    lapse-of-requires-2
+    mul-lapses-2
+    array-write-lapses-2
+    nearer-requires-4
+    serve-less-3
+    serve-again-3
+    looks-requires-2
+    age-holds
+    mul-until
+    array-read-until
+    due-in-requires
+    nearer-requires-5
+    add-i-3
+    age-less
+    age-again
+    mul-aged
+    array-copy-out-aged
+    aged-requires
+    mul-rows-4
+    array-set-from-rows-3
+    lapse-of-requires-3
+    mul-lapses-3
+    array-write-lapses-3
+    nearer-requires-6
+    add-i-4
+    age-less-2
+    age-again-2
+    add-k
+    slots-less
+    slots-again
     returns)

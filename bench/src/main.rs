@@ -84,9 +84,9 @@ fn print_notes() {
     println!(
         "advance: {ADVANCE} slots a call; both sides check once. Rust does plain slots, each over all rows, and is"
     );
-    println!("         the faster of one pass and three passes over them (the input says which). The library counts");
-    println!("         the slots in which nothing is released or lapses, and in these does not go over all rows: the");
-    println!("         answer is the same, the steps are not, and the ratio tells of both.");
+    println!("         the faster of one pass and three passes over them (the input says which). The library looks");
+    println!("         for releases and lapses only in slots in which one may fall: the answer is the same, the steps");
+    println!("         are not, and the ratio tells of both.");
 }
 
 fn planner(count: usize, random: &mut Random) {

@@ -1,7 +1,7 @@
 -- The search over paces and costs: what it adds up grows and stays small, and where each pace and cost tells a planned row, it is what the rows
 -- need. Assumes nothing.
 use Prim.Native.Nat.{ℕ, zero, suc, _+_, _-_, _*_, _/_, _≤_, _<_, min}
-use mathlib.Core.Path.{_≡_, refl}
+use mathlib.Core.Path.{_≡_, refl, _∙_}
 use mathlib.Core.List.{List, [], _∷_}
 use mathlib.Core.Option.{Option, none, some}
 use native.Mathlib.Decide.{decLt}
@@ -17,7 +17,7 @@ use Rattle.rules.proofs.Balance.{div-grows, window-more, fixed-same}
 use Rattle.planning.specs.declared.Smallest.{Smallest}
 use Rattle.planning.specs.declared.Smallest.the-variants.{At, Nothing}
 use Rattle.planning.specs.Made.{jobOf}
-use Rattle.planning.specs.Paces.{paceOf, Below, againOf, needAgain, UpTo, Once, foundOf}
+use Rattle.planning.specs.Paces.{paceOf, Below, againOf, needAgain, UpTo, Rising, Calm, foundOf}
 
 -- ── What is added up ──
 
@@ -142,19 +142,19 @@ sumOf cs zero = 0
 sumOf cs (suc n) = sumOf cs n + getD cs n 0
 
 -- what is known of two arrays in which the first n rows of a plan are told
-pub record Telling (plan : List PlanRow) (ps cs : List ℕ) (calm n : ℕ) : Type 0 where
+pub record Telling (plan : List PlanRow) (ps cs calms : List ℕ) (n : ℕ) : Type 0 where
   pub many : (length ps ≡ 64) × (length cs ≡ 64)
   pub low-paces : Below 1099511627777 ps
   pub low-costs : Below 4294967295 cs
-  pub told : (j : ℕ) → j < n → Told (getD plan j noPlanRow) (getD ps j 0) (getD cs j 0) calm
+  pub told : (j : ℕ) → j < n → Told (getD plan j noPlanRow) (getD ps j 0) (getD cs j 0) (getD calms j 0)
 
 below-none : (b k : ℕ) → Below b (replicate k 0)
 below-none b zero j = omega arith
 below-none b (suc k) zero = omega arith
 below-none b (suc k) (suc j) = below-none b k j
 
-pub telling-none : (plan : List PlanRow) (calm : ℕ) → Telling plan (replicate 64 0) (replicate 64 0) calm 0
-telling-none plan calm = record { many = (refl, refl); low-paces = below-none 1099511627777 64; low-costs = below-none 4294967295 64; told = λ j h. absurd (omega arith) }
+pub telling-none : (plan : List PlanRow) (calms : List ℕ) → Telling plan (replicate 64 0) (replicate 64 0) calms 0
+telling-none plan calms = record { many = (refl, refl); low-paces = below-none 1099511627777 64; low-costs = below-none 4294967295 64; told = λ j h. absurd (omega arith) }
 
 below-more : (b : ℕ) (xs : List ℕ) (n x : ℕ) → n < length xs → x ≤ b → Below b xs → Below b (set xs n x)
 below-more b xs n x l h few j = elim (decLt j n) [
@@ -172,10 +172,10 @@ told-less : {r : PlanRow} {pace cost calm less : ℕ} → less ≤ calm → Told
 told-less h o = record { brought = o .brought; once = λ t k. o .once t (omega arith) }
 
 -- one row more, in a plan that has it at place n and those before it as they were
-pub telling-more : (plan next : List PlanRow) (ps cs : List ℕ) (calm less n p x : ℕ) → n < 64 → less ≤ calm → p ≤ 1099511627777 → x ≤ 4294967295
-    → ((j : ℕ) → j < n → getD next j noPlanRow ≡ getD plan j noPlanRow) → Told (getD next n noPlanRow) p x less
-    → Telling plan ps cs calm n → Telling next (set ps n p) (set cs n x) less (n + 1)
-telling-more plan next ps cs calm less n p x h l low few same new k =
+pub telling-more : (plan next : List PlanRow) (ps cs calms less : List ℕ) (n p x : ℕ) → n < 64 → ((j : ℕ) → j < n → getD less j 0 ≤ getD calms j 0) → p ≤ 1099511627777 → x ≤ 4294967295
+    → ((j : ℕ) → j < n → getD next j noPlanRow ≡ getD plan j noPlanRow) → Told (getD next n noPlanRow) p x (getD less n 0)
+    → Telling plan ps cs calms n → Telling next (set ps n p) (set cs n x) less (n + 1)
+telling-more plan next ps cs calms less n p x h l low few same new k =
     let a : n < length ps = omega (arith, k .many .0) in
     let b : n < length cs = omega (arith, k .many .1) in
     record {
@@ -184,7 +184,7 @@ telling-more plan next ps cs calm less n p x h l low few same new k =
       low-costs = below-more 4294967295 cs n x b few (k .low-costs);
       told = λ j u. elim (decLt j n) [
         | yes v ↦ (let apart : j ≡ n → ⊥ = λ e. omega arith in
-            rw (getD-set-other ps n j p 0 apart, getD-set-other cs n j x 0 apart, same j v) (told-less l (k .told j v)))
+            rw (getD-set-other ps n j p 0 apart, getD-set-other cs n j x 0 apart, same j v) (told-less (l j v) (k .told j v)))
         | no v ↦ (let e : j ≡ n = omega arith in rw (e, getD-set-same ps n p 0 a, getD-set-same cs n x 0 b) new)
       ];
     }
@@ -209,29 +209,34 @@ window-none (r ∷ rs) =
 
 -- ── What the search finds ──
 
-window-told : (plan : List PlanRow) (ps cs : List ℕ) (calm n t : ℕ) → n ≤ length plan → ((j : ℕ) → j < n → Told (getD plan j noPlanRow) (getD ps j 0) (getD cs j 0) calm) → 1 ≤ t → t ≤ 1000000
+window-told : (plan : List PlanRow) (ps cs calms : List ℕ) (n t : ℕ) → n ≤ length plan → ((j : ℕ) → j < n → Told (getD plan j noPlanRow) (getD ps j 0) (getD cs j 0) (getD calms j 0)) → 1 ≤ t → t ≤ 1000000
     → windowOf (take n plan) t ≡ sumOf cs n + againOf ps cs n t
-window-told plan ps cs calm zero t l told h u = refl
-window-told plan ps cs calm (suc n) t l told h u =
-    let i = window-told plan ps cs calm n t (omega arith) (λ j b. told j (omega arith)) h u in
+window-told plan ps cs calms zero t l told h u = refl
+window-told plan ps cs calms (suc n) t l told h u =
+    let i = window-told plan ps cs calms n t (omega arith) (λ j b. told j (omega arith)) h u in
     let b = told n (omega arith) .brought t h u in
     rw (take-suc plan n noPlanRow l) (omega (arith, i, b, window-more (take n plan) (getD plan n noPlanRow) t))
 
-module _ (plan : List PlanRow) (ps cs : List ℕ) (calm n : ℕ) (k : Telling plan ps cs calm n) where
+module _ (plan : List PlanRow) (ps cs calms : List ℕ) (n : ℕ) (k : Telling plan ps cs calms n) where
   -- what it adds up, begun at the costs of the object and of all ahead of it, is what the object needs
   pub need-told : (start cost t : ℕ) → n ≤ length plan → start ≡ cost + sumOf cs n → 1 ≤ t → t ≤ 1000000 → needAgain ps cs n start t ≡ needOf (take n plan) cost t
-  need-told start cost t l e h u = omega (arith, e, window-told plan ps cs calm n t l (k .told) h u)
+  need-told start cost t l e h u = omega (arith, e, window-told plan ps cs calms n t l (k .told) h u)
 
   -- so what it finds is the smallest t that balances
   pub search-right : (start cost bound : ℕ) → n ≤ length plan → start ≡ cost + sumOf cs n → bound ≤ 1000000 → firstFixed (needAgain ps cs n start) bound 1 ≡ smallestWithin (take n plan) cost bound
   search-right start cost bound l e u =
       fixed-same (needAgain ps cs n start) (needOf (take n plan) cost) bound 1 (λ s a b. need-told start cost s l e a (omega arith))
 
--- and within `calm` slots none of them comes again
-pub calm-once : (plan : List PlanRow) (ps cs : List ℕ) (calm n : ℕ) → ((j : ℕ) → j < n → Told (getD plan j noPlanRow) (getD ps j 0) (getD cs j 0) calm) → Once ps cs n calm
-calm-once plan ps cs calm zero told t h = refl
-calm-once plan ps cs calm (suc n) told t h =
-    rw (told n (omega arith) .once t h, calm-once plan ps cs calm n (λ j b. told j (omega arith)) t h) (omega (arith, zero-mul (getD cs n 0)))
+-- and within calms[m] slots none of them from the m-th on comes again
+pub calm-behind : (plan : List PlanRow) (ps cs calms : List ℕ) (n : ℕ) → ((j : ℕ) → j < n → Told (getD plan j noPlanRow) (getD ps j 0) (getD cs j 0) (getD calms j 0)) → Rising calms n → Calm ps cs calms n
+calm-behind plan ps cs calms zero told up m t l h = absurd (omega arith)
+calm-behind plan ps cs calms (suc n) told up m t l h =
+    let z = told n (omega arith) .once t (omega (arith, up m n (omega arith) (omega arith))) in
+    let e : againOf ps cs (suc n) t ≡ againOf ps cs n t = rw z (omega (arith, zero-mul (getD cs n 0))) in
+    elim (decLt m n) [
+      | yes v ↦ e ∙ calm-behind plan ps cs calms n (λ j b. told j (omega arith)) (λ j k a b. up j k a (omega arith)) m t v h
+      | no v ↦ (let q : m ≡ n = omega arith in rw q e)
+    ]
 
 -- what is told of a search
 pub found-at : (o : Option ℕ) (r : Smallest) (t : ℕ) → r ≡ foundOf o → r ≡ At t → o ≡ some t

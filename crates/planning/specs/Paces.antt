@@ -1,10 +1,10 @@
 -- The search for the smallest t that balances, over two numbers for each object ahead: its cost, and its pace, which is its period as a factor.
 -- It names no rows: whoever can tell the objects ahead by these numbers, and has a bound, searches by it. Assumes nothing.
-use Prim.Native.Nat.{ℕ, zero, suc, _+_, _-_, _*_, _/_, _≤_, min}
+use Prim.Native.Nat.{ℕ, zero, suc, _+_, _-_, _*_, _/_, _≤_, _<_, min}
 use mathlib.Core.Path.{_≡_}
 use mathlib.Core.List.{List}
 use mathlib.Core.Option.{Option, none, some}
-use lib.ListN.{getD}
+use lib.ListN.{length, getD}
 use Rattle.planning.specs.declared.Smallest.{Smallest}
 use Rattle.planning.specs.declared.Smallest.the-variants.{At, Nothing}
 
@@ -30,9 +30,25 @@ pub record UpTo (bound x r : ℕ) : Type 0 where
   pub under : r ≤ x
   pub same : r ≤ bound → r ≡ x
 
--- within `calm` slots none of the first n brings a second job
-abbrev pub Once : List ℕ → List ℕ → ℕ → ℕ → Type 0
-Once ps cs n calm = (t : ℕ) → t ≤ calm → againOf ps cs n t ≡ 0
+-- the first n numbers go up
+abbrev pub Rising : List ℕ → ℕ → Type 0
+Rising xs n = (j k : ℕ) → j ≤ k → k < n → getD xs j 0 ≤ getD xs k 0
+
+-- numbers that go up, with none of the first n above what it was and the n-th at most p
+pub record Calmer (old new : List ℕ) (n p : ℕ) : Type 0 where
+  pub many : length new ≡ 64
+  pub low : (j : ℕ) → j < n → getD new j 0 ≤ getD old j 0
+  pub last : getD new n 0 ≤ p
+  pub rising : Rising new (n + 1)
+
+-- within calms[m] slots none of the first n from the m-th on brings a second job
+abbrev pub Calm : List ℕ → List ℕ → List ℕ → ℕ → Type 0
+Calm ps cs calms n = (m t : ℕ) → m < n → t ≤ getD calms m 0 → againOf ps cs n t ≡ againOf ps cs m t
+
+-- the first r of n are as many as bring a second job within t slots, or more
+pub record Reached (calms : List ℕ) (n t r : ℕ) : Type 0 where
+  pub upTo : r ≤ n
+  pub behind : r < n → t ≤ getD calms r 0
 
 -- what a search answers
 abbrev pub foundOf : Option ℕ → Smallest

@@ -10,7 +10,7 @@
  * run or the same buffer at the same time.
  * NULL. A pointer that goes with a length must point to that many elements, and with length 0 to anything but NULL. NULL is not
  * looked for: a NULL pointer, as any that does not go with its length, has no defined outcome.
- * Sizes, in bytes: a table 776, a plan 1,288, a run 3,088; an object row 12, a planned row 20, a run row 48; the answers a verdict
+ * Sizes, in bytes: a table 1,032, a plan 1,544, a run 3,344; an object row 16, a planned row 24, a run row 52; the answers a verdict
  * (16) more.
  * Stack, measured: channelfox_advance 28 KB, channelfox_start 22, channelfox_slot 19, channelfox_read_value 16, the plans 11, the others
  * under 4.
@@ -24,7 +24,7 @@
  *    3 the mark is not 4D 4C                                0
  *    4 count 0 or above 64                                  0
  *    5 distance below 8 + 12 n                              0
- *    6 spare not zero                                       record
+ *    6 hold outside 1 to its cost, or above 65,536          record
  *    7 cost outside 1 to 1,000,000                          record
  *    8 validity outside 2 to 1,000,000                      record
  *    9 id equal to an earlier record's                      record
@@ -35,9 +35,14 @@
  *   14 no object with that id                               0
  *   15 distance above the number of bytes                   0
  *   16 the buffer is smaller than what is to be written     0
- *   17 line not of the form id,cost,validity CR LF          line, counted from 0
- * The stored table is checked for 1 to 5, then 15, then 6 to 9 record by record; a sheet for 2, then 17 line by line, then 4, then
- * 7, 8, 9 row by row.
+ *   17 line not of the form id,cost,validity,hold CR LF     line, counted from 0
+ * The stored table is checked for 1 to 5, then 15, then 7, 6, 8, 9 record by record; a sheet for 2, then 17 line by line, then 4, then
+ * 7, 6, 8, 9 row by row.
+ *
+ * Holds. Once a job has done its first unit, the core does nothing but that job, in slots not stolen, until it has done `hold` units:
+ * the first slots of a job that writes flash, say. 1 is a job that may be set aside after any slot. A hold costs the objects ahead: each
+ * of them may have to wait for the longest hold behind it less one slot, and its deadline has room for that. The stored form has the
+ * hold less one in its spare field.
  */
 #ifndef CHANNELFOX_H
 #define CHANNELFOX_H
@@ -50,7 +55,7 @@
 extern "C" {
 #endif
 
-#define CHANNELFOX_VERSION "0.6.0"
+#define CHANNELFOX_VERSION "0.7.0"
 
 #define CHANNELFOX_ROWS 64
 
@@ -64,6 +69,7 @@ typedef struct {
     uint16_t id;
     uint32_t cost;
     uint32_t validity;
+    uint32_t hold; /* 1 to the cost, at most 65,536 */
 } channelfox_object_row;
 
 typedef struct {
@@ -75,6 +81,7 @@ typedef struct {
     uint16_t id;
     uint32_t cost;
     uint32_t validity;
+    uint32_t hold;
     uint32_t deadline;
     uint32_t period;
 } channelfox_plan_row;
@@ -144,30 +151,31 @@ typedef struct {
 /* Reads a stored table. Refusals 1 to 9 and 15, with count 0 and every field zero. Rows beyond the count are zero. */
 channelfox_read_answer channelfox_read(const uint8_t *bytes, size_t length);
 
-/* The second door: a list of rows in memory becomes a table. Refusals 4, 7, 8, 9, with count 0 and every field zero. */
+/* The second door: a list of rows in memory becomes a table. Refusals 4, 7, 6, 8, 9, with count 0 and every field
+ * zero. */
 channelfox_read_answer channelfox_rows(const channelfox_object_row *rows, size_t length);
 
 /* Writes a table as stored bytes: n records and the trailer, 8 + 12 n bytes without gap at the start of the buffer, and nothing
- * beyond them is touched. Refusals 4, 7, 8, 9, then 16 where the buffer has fewer bytes, leave the buffer as it is. Rows of the
+ * beyond them is touched. Refusals 4, 7, 6, 8, 9, then 16 where the buffer has fewer bytes, leave the buffer as it is. Rows of the
  * table beyond its count are not read. What is written reads back as the same rows in the same order. */
 channelfox_written channelfox_write(channelfox_table table, uint8_t *buffer, size_t length);
 
-/* Reads a reseller's sheet: lines of id, cost and validity, separated by commas and each ended by CR LF, up to 4,096 bytes. Numbers are
- * decimal digits without leading zero (0 itself is "0"), an id up to 65,535 and the others up to 4,294,967,295; a header, a sign, a
- * space, a quote, an empty field or a last line without CR LF is no such line. Refusals 2, then 17 at the first line that is not of
- * the form, then 4 where there is no line or more than 64, then 7, 8, 9, with count 0 and every field zero. */
+/* Reads a reseller's sheet: lines of id, cost, validity and hold, separated by commas and each ended by CR LF, up to 4,096 bytes. Numbers
+ * are decimal digits without leading zero (0 itself is "0"), an id up to 65,535 and the others up to 4,294,967,295; a header, a sign, a
+ * space, a quote, an empty field, three fields or a last line without CR LF is no such line. Refusals 2, then 17 at the first line that
+ * is not of the form, then 4 where there is no line or more than 64, then 7, 6, 8, 9, with count 0 and every field zero. */
 channelfox_read_answer channelfox_import(const uint8_t *bytes, size_t length);
 
 /* Writes a table as a sheet at the start of the buffer, a line for each row in their order, and nothing beyond it is touched. Refusals
- * 4, 7, 8, 9, then 16 where the sheet has more bytes than the buffer, leave the buffer as it is; 1,472 bytes are always enough. What is
- * exported imports as the same rows in the same order, and every sheet that imports, exported again, gives the same bytes. */
+ * 4, 7, 6, 8, 9, then 16 where the sheet has more bytes than the buffer, leave the buffer as it is; 1,856 bytes are always enough. What
+ * is exported imports as the same rows in the same order, and every sheet that imports, exported again, gives the same bytes. */
 channelfox_written channelfox_export(channelfox_table table, uint8_t *buffer, size_t length);
 
 /* The records part of the site table if that reads without refusal, otherwise of the factory table if that one does,
  * otherwise the empty part at the start of the factory bytes (source 2, start 0, size 0). */
 channelfox_part channelfox_choose(const uint8_t *site, size_t site_length, const uint8_t *factory, size_t factory_length);
 
-/* Plans a table: refusals 4, 7, 8, 9, then 10, with count 0 and every field zero. Rows of the table beyond its count are
+/* Plans a table: refusals 4, 7, 6, 8, 9, then 10, with count 0 and every field zero. Rows of the table beyond its count are
  * not read; rows of the plan beyond its count are zero. */
 channelfox_plan_answer channelfox_plan_table(channelfox_table table);
 
@@ -177,18 +185,19 @@ channelfox_plan_answer channelfox_plan_table(channelfox_table table);
 channelfox_plan_answer channelfox_plan_classic(channelfox_table table);
 
 /* The table with its rows in priority order, which the places told with 10 and 12 count; rows beyond the count are zero. Refusals
- * 4, 7, 8, 9, with count 0 and every field zero. */
+ * 4, 7, 6, 8, 9, with count 0 and every field zero. */
 channelfox_read_answer channelfox_ranked(channelfox_table table);
 
 /* Reads a stored table and plans it: refusals 1 to 10 and 15. */
 channelfox_plan_answer channelfox_plan_stored(const uint8_t *bytes, size_t length);
 
 /* Plans a table and starts a run of it at any clock, with one first release for each object, in priority order, counted
- * from the clock. Refusals 4, 7, 8, 9, 10, then 11, then 12, with count 0 and every field zero or none. */
+ * from the clock. Refusals 4, 7, 6, 8, 9, 10, then 11, then 12, with count 0 and every field zero or none. */
 channelfox_run_answer channelfox_start(channelfox_table table, uint32_t clock, const uint32_t *firsts, size_t length);
 
 /* One slot, in place. Refusal 13 leaves the run exactly as it came in. A row whose `lapsed` is not 0 or 1, whose `stored` is
- * above 2, or that holds an instant while nothing is held, is no run state (here and below). */
+ * above 2, or that holds an instant while nothing is held, is no run state (here and below), and neither is one whose hold is outside 1
+ * to its cost or above 65,536, nor a run with two jobs in their hold at once. */
 channelfox_verdict channelfox_slot(channelfox_run *run, bool stolen);
 
 /* One slot for each byte of `stolen`: 0, the core is ours; anything else, it is stolen. No byte is no slot: an acceptable run comes
@@ -215,7 +224,7 @@ static inline const char *channelfox_refusal_text(unsigned number) {
     case 5:
         return "the distance is too small for so many records";
     case 6:
-        return "the spare bytes of a record are not zero";
+        return "a hold is not from 1 to its cost, at most 65536";
     case 7:
         return "a cost is not from 1 to 1000000";
     case 8:
@@ -237,7 +246,7 @@ static inline const char *channelfox_refusal_text(unsigned number) {
     case 16:
         return "the buffer is too small for what is to be written";
     case 17:
-        return "a line is not of the form id,cost,validity CR LF";
+        return "a line is not of the form id,cost,validity,hold CR LF";
     default:
         return "no such refusal";
     }

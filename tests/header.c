@@ -1,4 +1,5 @@
-/* The header by itself: its version, a text for each refusal, and numbers of readings that are no kinds of stored values. */
+/* The header by itself: its version, a text for each refusal, numbers of readings that are no kinds of stored values, and the sizes that
+ * it names. */
 #include "channelfox.h"
 #include <stdio.h>
 
@@ -9,6 +10,12 @@ int main(void) {
         for (int k = 0; k < 3; k++)
             if (stored[i] == readings[k])
                 printf("stored %d is a reading\n", stored[i]);
+    if (sizeof(channelfox_object_row) != 16 || sizeof(channelfox_plan_row) != 24 || sizeof(channelfox_run_row) != 52)
+        printf("a row has another size\n");
+    if (sizeof(channelfox_table) != 1032 || sizeof(channelfox_plan) != 1544 || sizeof(channelfox_run) != 3344)
+        printf("a table, a plan or a run has another size\n");
+    if (sizeof(channelfox_run_answer) != 16 + 3344)
+        printf("an answer has another size\n");
     printf("%s\n", CHANNELFOX_VERSION);
     for (unsigned number = 0; number <= 18; number++)
         printf("%u %s\n", number, channelfox_refusal_text(number));

@@ -22,6 +22,7 @@ pub struct ObjectRow {
     pub id: u16,
     pub cost: u32,
     pub validity: u32,
+    pub hold: u32,
 }
 
 #[repr(C)]
@@ -37,6 +38,7 @@ pub struct PlanRow {
     pub id: u16,
     pub cost: u32,
     pub validity: u32,
+    pub hold: u32,
     pub deadline: u32,
     pub period: u32,
 }

@@ -66,7 +66,20 @@ pub fn idle(count: usize, span: RangeInclusive<u32>, random: &mut Random) -> Tab
 
 /// A table with a load near one: costs as large as the planner accepts, and the last object takes what is left.
 pub fn full(count: usize, span: RangeInclusive<u32>, random: &mut Random) -> Table {
-    let mut table = with_validities(count, span, random);
+    let table = with_validities(count, span, random);
+    filled(table, &[0.0; ROWS], random)
+}
+
+/// The same with holds of up to half the cost.
+pub fn full_with_holds(count: usize, span: RangeInclusive<u32>, random: &mut Random) -> Table {
+    let table = with_validities(count, span, random);
+    let parts = [0.0; ROWS].map(|_| random.part());
+    filled(table, &parts, random)
+}
+
+/// Costs as large as the planner accepts, and each hold so large a part of half the cost.
+fn filled(mut table: Table, parts: &[f64; ROWS], random: &mut Random) -> Table {
+    let count = table.count;
     let shares: Vec<f64> = (0..count).map(|_| 0.5 + random.part()).collect();
     for step in (1..=256).rev() {
         let mut share = shares.iter();
@@ -74,6 +87,7 @@ pub fn full(count: usize, span: RangeInclusive<u32>, random: &mut Random) -> Tab
             let all = f64::from(row.validity) * f64::from(step) / 256.0;
             (all * share.next().expect("a share for each object") / count as f64) as u32
         });
+        set_holds(&mut table, parts);
         if plan(&table).is_ok() {
             break;
         }
@@ -101,12 +115,24 @@ pub fn even(count: usize, costs: RangeInclusive<u32>, validities: RangeInclusive
 
 /// Jobs of one to three slots, and validities as short as the planner accepts.
 pub fn short_jobs(count: usize, random: &mut Random) -> Table {
-    let weighted = with_validities(count, 20..=100, random);
-    let costs: Vec<u32> = (0..count).map(|_| 1 + random.below(3)).collect();
+    let mut table = with_validities(count, 20..=100, random);
+    set_costs(&mut table, |_| 1 + random.below(3));
+    tightened(&table)
+}
+
+/// Jobs of four to twelve slots with holds of up to half of that, and validities as short as the planner accepts.
+pub fn held_jobs(count: usize, random: &mut Random) -> Table {
+    let mut table = with_validities(count, 20..=100, random);
+    set_costs(&mut table, |_| random.within(&(4..=12)));
+    set_holds(&mut table, &[0.0; ROWS].map(|_| random.part()));
+    tightened(&table)
+}
+
+/// The table with its validities scaled down, or up, as far as the planner accepts.
+fn tightened(weighted: &Table) -> Table {
     for scale in 1.. {
-        let mut table = weighted;
-        for (row, cost) in table.rows[..count].iter_mut().zip(&costs) {
-            row.cost = *cost;
+        let mut table = *weighted;
+        for row in &mut table.rows[..weighted.count] {
             row.validity = (row.validity * scale / 100).max(2);
         }
         if plan(&table).is_ok() {
@@ -129,7 +155,7 @@ fn with_validities(count: usize, span: RangeInclusive<u32>, random: &mut Random)
     table
 }
 
-/// Rows with different ids in no order, and nothing else yet.
+/// Rows with different ids in no order, holds of 1, and nothing else yet.
 fn with_ids(count: usize, random: &mut Random) -> Table {
     let mut table = Table {
         count,
@@ -138,6 +164,7 @@ fn with_ids(count: usize, random: &mut Random) -> Table {
     let first_id = random.below(65_536) as u16;
     for (place, row) in table.rows[..count].iter_mut().enumerate() {
         row.id = first_id.wrapping_add(40_503u16.wrapping_mul(place as u16));
+        row.hold = 1;
     }
     table
 }
@@ -145,6 +172,13 @@ fn with_ids(count: usize, random: &mut Random) -> Table {
 fn set_costs(table: &mut Table, mut cost: impl FnMut(&ObjectRow) -> u32) {
     for row in &mut table.rows[..table.count] {
         row.cost = cost(row).max(1);
+    }
+}
+
+/// Holds from 1 to half the cost: each so large a part of that.
+fn set_holds(table: &mut Table, parts: &[f64; ROWS]) {
+    for (row, part) in table.rows[..table.count].iter_mut().zip(parts) {
+        row.hold = 1 + (f64::from(row.cost / 2) * part) as u32;
     }
 }
 

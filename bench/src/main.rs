@@ -87,19 +87,31 @@ fn print_notes() {
     println!("         the faster of one pass and three passes over them (the input says which). The library looks");
     println!("         for releases and lapses only in slots in which one may fall: the answer is the same, the steps");
     println!("         are not, and the ratio tells of both.");
+    println!("with holds: each hold from 1 to half the cost. In plan, short validities and costs as large as the");
+    println!("         planner accepts; elsewhere jobs of 4 to 12 slots. All other lines have holds of 1.");
+}
+
+/// Random numbers for the lines with holds, apart from the others: so those keep the inputs that they always had. There
+/// are no such lines for one object, which waits for nobody.
+fn for_holds(count: usize) -> Random {
+    Random(100 + count as u64)
 }
 
 fn planner(count: usize, random: &mut Random) {
     for (name, span) in [("short", SHORT), ("long", LONG)] {
         let light = inputs::light(count, span.clone(), random);
         let full = inputs::full(count, span, random);
-        time_plan(name, &light);
-        time_plan(name, &full);
-        time_plan(name, &inputs::refused(&full));
+        time_plan(&format!("{name} validities"), &light);
+        time_plan(&format!("{name} validities"), &full);
+        time_plan(&format!("{name} validities"), &inputs::refused(&full));
+    }
+    if count > 1 {
+        let table = inputs::full_with_holds(count, SHORT, &mut for_holds(count));
+        time_plan("with holds", &table);
     }
 }
 
-fn time_plan(validities: &str, table: &Table) {
+fn time_plan(name: &str, table: &Table) {
     let outcome = match same_plan(table) {
         Ok(plan) => format!("load {:.2}", inputs::load(&plan)),
         Err(verdict) => format!("refusal {}", verdict.number),
@@ -115,12 +127,7 @@ fn time_plan(validities: &str, table: &Table) {
         }
     };
     let times = compare(PLANS, &mut rust, &mut library);
-    print_line(
-        "plan",
-        table.count,
-        &format!("{validities} validities, {outcome}"),
-        &times,
-    );
+    print_line("plan", table.count, &format!("{name}, {outcome}"), &times);
 }
 
 /// The plan or refusal that both sides give. Stops the program if they differ.
@@ -139,6 +146,10 @@ fn slots(count: usize, random: &mut Random) {
     let table = inputs::short_jobs(count, random);
     time_slot("short jobs", &table, 0, random);
     time_slot("overload", &table, 30, random);
+    if count > 1 {
+        let random = &mut for_holds(count);
+        time_slot("with holds", &inputs::held_jobs(count, random), 0, random);
+    }
 }
 
 fn time_slot(name: &str, table: &Table, percent_stolen: u32, random: &mut Random) {
@@ -175,13 +186,15 @@ fn same_slots(run: &Run, flags: &[u8]) {
 
 /// Stops the program unless both sides give refusal 13 to each damaged form of the run, and leave it alone.
 fn same_refusals(run: &Run) {
-    let damages: [fn(&mut Run); 6] = [
+    let damages: [fn(&mut Run); 8] = [
         |run| run.count = 0,
         |run| run.rows[0].planned.cost = 0,
         |run| run.rows[run.count - 1].planned.deadline += 1,
         |run| run.rows[0].next = run.clock.wrapping_add(run.rows[0].planned.period),
         |run| run.rows[0].left = run.rows[0].planned.cost + 1,
         |run| run.rows[0].stored = run::Stored::Held(run.clock.wrapping_add(1)),
+        |run| run.rows[0].planned.hold = 0,
+        |run| run.rows[run.count - 1].planned.hold = run.rows[run.count - 1].planned.cost + 1,
     ];
     for damage in damages {
         let mut ours = *run;
@@ -203,6 +216,10 @@ fn in_place(count: usize, random: &mut Random) {
     let table = inputs::short_jobs(count, random);
     time_in_place("short jobs", &table, 0, random);
     time_in_place("overload", &table, 30, random);
+    if count > 1 {
+        let random = &mut for_holds(count);
+        time_in_place("with holds", &inputs::held_jobs(count, random), 0, random);
+    }
 }
 
 /// A run from its start through all flags: planning and starting are a part of a thousandth.
@@ -260,6 +277,10 @@ fn advances(count: usize, random: &mut Random) {
     time_advance("long jobs", &long, 0, random);
     time_advance("overload", &short, 30, random);
     time_advance("long periods", &idle, 0, random);
+    if count > 1 {
+        let random = &mut for_holds(count);
+        time_advance("with holds", &inputs::held_jobs(count, random), 0, random);
+    }
 }
 
 fn time_advance(name: &str, table: &Table, percent_stolen: u32, random: &mut Random) {

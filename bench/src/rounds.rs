@@ -55,15 +55,16 @@ fn time_planner(tables: &[Table]) -> Alone {
     time(tables.len(), &mut library)
 }
 
-/// Where the search begins, for an object and those ahead of it.
-type Start = fn(&PlanRow, &[PlanRow]) -> u32;
+/// Where the search begins, for what an object needs of its own and those ahead of it. The tables have no holds, so
+/// that is its cost.
+type Start = fn(u32, &[PlanRow]) -> u32;
 
-fn own_cost(object: &PlanRow, _ahead: &[PlanRow]) -> u32 {
-    object.cost
+fn own_cost(own: u32, _ahead: &[PlanRow]) -> u32 {
+    own
 }
 
-fn all_costs(object: &PlanRow, ahead: &[PlanRow]) -> u32 {
-    object.cost + ahead.iter().map(|row| row.cost).sum::<u32>()
+fn all_costs(own: u32, ahead: &[PlanRow]) -> u32 {
+    own + ahead.iter().map(|row| row.cost).sum::<u32>()
 }
 
 /// The rounds of all objects of a plan.
@@ -75,7 +76,7 @@ fn rounds_of_plan(plan: &Plan, start: Start) -> f64 {
 
 /// The rounds until t balances. Stops the program if that t is not the planned deadline.
 fn rounds_of_search(object: &PlanRow, ahead: &[PlanRow], start: Start) -> u32 {
-    let mut t = start(object, ahead);
+    let mut t = start(object.cost, ahead);
     let mut rounds = 1;
     loop {
         let next = needed(object.cost, ahead, t);

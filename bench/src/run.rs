@@ -1,7 +1,7 @@
 //! The run of document 01 in idiomatic Rust: what channelfox_slot and channelfox_advance are timed against.
 
 use crate::ffi::{self, Plan, PlanRow, ROWS};
-use crate::plan::{Refusal, LARGEST};
+use crate::plan::{Refusal, LARGEST, LONGEST_HOLD};
 
 /// The stored value of an object.
 #[derive(Clone, Copy, PartialEq, Eq, Debug, Default)]
@@ -47,8 +47,8 @@ pub fn start(plan: &Plan, clock: u32, mut firsts: impl FnMut(&PlanRow) -> u32) -
 /// One slot, checked, in place. Never inlined, as a call of the library is not.
 #[inline(never)]
 pub fn checked_slot(run: &mut Run, stolen: bool) -> Result<(), Refusal> {
-    check(run)?;
-    slot_in_three_passes(run, stolen);
+    let held = check(run)?;
+    slot_in_three_passes(run, held, stolen);
     Ok(())
 }
 
@@ -56,8 +56,8 @@ pub fn checked_slot(run: &mut Run, stolen: bool) -> Result<(), Refusal> {
 #[inline(never)]
 pub fn checked_slots_in_one_pass(run: &mut Run, stolen: &[u8]) -> Result<(), Refusal> {
     for &flag in stolen {
-        check(run)?;
-        slot_in_one_pass(run, flag != 0);
+        let held = check(run)?;
+        slot_in_one_pass(run, held, flag != 0);
     }
     Ok(())
 }
@@ -66,8 +66,8 @@ pub fn checked_slots_in_one_pass(run: &mut Run, stolen: &[u8]) -> Result<(), Ref
 #[inline(never)]
 pub fn checked_slots_in_three_passes(run: &mut Run, stolen: &[u8]) -> Result<(), Refusal> {
     for &flag in stolen {
-        check(run)?;
-        slot_in_three_passes(run, flag != 0);
+        let held = check(run)?;
+        slot_in_three_passes(run, held, flag != 0);
     }
     Ok(())
 }
@@ -75,9 +75,9 @@ pub fn checked_slots_in_three_passes(run: &mut Run, stolen: &[u8]) -> Result<(),
 /// Checks once, then one slot for each flag, each in one pass over the rows.
 #[inline(never)]
 pub fn advance_in_one_pass(run: &mut Run, stolen: &[u8]) -> Result<(), Refusal> {
-    check(run)?;
+    let mut held = check(run)?;
     for &flag in stolen {
-        slot_in_one_pass(run, flag != 0);
+        held = slot_in_one_pass(run, held, flag != 0);
     }
     Ok(())
 }
@@ -85,43 +85,69 @@ pub fn advance_in_one_pass(run: &mut Run, stolen: &[u8]) -> Result<(), Refusal> 
 /// Checks once, then one slot for each flag, each in three passes over the rows.
 #[inline(never)]
 pub fn advance_in_three_passes(run: &mut Run, stolen: &[u8]) -> Result<(), Refusal> {
-    check(run)?;
+    let mut held = check(run)?;
     for &flag in stolen {
-        slot_in_three_passes(run, flag != 0);
+        held = slot_in_three_passes(run, held, flag != 0);
     }
     Ok(())
 }
 
+/// The place of the row whose job is in its hold, if there is one. The check finds it, and from then on a slot tells
+/// the next one what it leaves: nobody looks for it twice.
+type InHold = Option<usize>;
+
 #[inline]
-fn slot_in_three_passes(run: &mut Run, stolen: bool) {
+fn slot_in_three_passes(run: &mut Run, mut held: InHold, stolen: bool) -> InHold {
     let rows = &mut run.rows[..run.count];
     for row in rows.iter_mut() {
         release(row, run.clock);
     }
     if !stolen {
-        if let Some(row) = rows.iter_mut().find(|row| row.left > 0) {
-            work(row);
+        if let Some(place) = held.or_else(|| rows.iter().position(|row| row.left > 0)) {
+            work(&mut rows[place]);
+            held = in_hold(&rows[place]).then_some(place);
         }
     }
     run.clock = run.clock.wrapping_add(1);
     for row in rows.iter_mut() {
         lapse(row, run.clock);
     }
+    held
 }
 
 #[inline]
-fn slot_in_one_pass(run: &mut Run, stolen: bool) {
+fn slot_in_one_pass(run: &mut Run, mut held: InHold, stolen: bool) -> InHold {
+    let rows = &mut run.rows[..run.count];
     let mut free = !stolen;
+    if let (true, Some(place)) = (free, held) {
+        // Its own release goes first, and is not met again below: a job that ends here does not make room for one that
+        // is due now.
+        let row = &mut rows[place];
+        release(row, run.clock);
+        work(row);
+        held = in_hold(row).then_some(place);
+        free = false;
+    }
     let after = run.clock.wrapping_add(1);
-    for row in &mut run.rows[..run.count] {
+    for (place, row) in rows.iter_mut().enumerate() {
         release(row, run.clock);
         if free && row.left > 0 {
             work(row);
+            held = in_hold(row).then_some(place);
             free = false;
         }
         lapse(row, after);
     }
     run.clock = after;
+    held
+}
+
+/// Whether the job of a good row has done its first unit and not yet all of its hold. With no work left all of the cost
+/// is done, and the hold is no longer than that.
+#[inline]
+fn in_hold(row: &Row) -> bool {
+    let done = row.planned.cost - row.left;
+    done > 0 && done < row.planned.hold
 }
 
 /// Step 1: a release that is due begins a job or is skipped.
@@ -168,23 +194,32 @@ fn lapse(row: &mut Row, clock: u32) {
     }
 }
 
-/// Refusal 13 unless the run state is acceptable.
-fn check(run: &Run) -> Result<(), Refusal> {
-    match acceptable(run) {
-        true => Ok(()),
+/// Refusal 13 unless the run state is acceptable; then the place of the row in its hold.
+fn check(run: &Run) -> Result<InHold, Refusal> {
+    if run.count == 0 || run.count > ROWS {
+        return Err(Refusal::NotARun);
+    }
+    let (used, unused) = run.rows.split_at(run.count);
+    let held = used_rows(used, run.clock)?;
+    match ids_differ(used) && unused.iter().all(|row| *row == Row::default()) {
+        true => Ok(held),
         false => Err(Refusal::NotARun),
     }
 }
 
-fn acceptable(run: &Run) -> bool {
-    if run.count == 0 || run.count > ROWS {
-        return false;
+/// What each row in use must be by itself, and that at most one is in its hold.
+#[inline]
+fn used_rows(used: &[Row], clock: u32) -> Result<InHold, Refusal> {
+    let mut held = None;
+    for (place, row) in used.iter().enumerate() {
+        if !well_planned(&row.planned) || !well_under_way(row, clock) {
+            return Err(Refusal::NotARun);
+        }
+        if in_hold(row) && held.replace(place).is_some() {
+            return Err(Refusal::NotARun);
+        }
     }
-    let (used, unused) = run.rows.split_at(run.count);
-    used.iter()
-        .all(|row| well_planned(&row.planned) && well_under_way(row, run.clock))
-        && ids_differ(used)
-        && unused.iter().all(|row| *row == Row::default())
+    Ok(held)
 }
 
 fn ids_differ(rows: &[Row]) -> bool {
@@ -203,6 +238,9 @@ fn well_planned(row: &PlanRow) -> bool {
         && row.cost <= row.deadline
         && row.deadline <= row.period
         && row.validity <= LARGEST
+        && 1 <= row.hold
+        && row.hold <= row.cost
+        && row.hold <= LONGEST_HOLD
         && row.deadline.checked_add(row.period) == Some(row.validity)
 }
 

@@ -5,14 +5,24 @@ use rules::Plan;
 use rules::Table;
 use rules::Verdict;
 
-// An object row of (cost, validity), with an id.
+// An object row of (cost, validity), with an id and a hold.
+pub(crate) fn held_row(id: u16, cost: u32, validity: u32, hold: u32) -> ObjectRow {
+    ObjectRow {
+        id,
+        cost,
+        validity,
+        hold,
+    }
+}
+
+// The same with a hold of 1.
 pub(crate) fn row(id: u16, cost: u32, validity: u32) -> ObjectRow {
-    ObjectRow { id, cost, validity }
+    held_row(id, cost, validity, 1)
 }
 
 // A table of the first `count` of three rows.
 pub(crate) fn table(count: usize, first: ObjectRow, second: ObjectRow, third: ObjectRow) -> Table {
-    let none = row(0, 0, 0);
+    let none = rules::empty_row();
     let mut rows = [none; 64];
     rows[0] = first;
     rows[1] = second;
@@ -110,6 +120,31 @@ fn ties() {
     two(39, 1, 10, 3, 10); // id 1 (1,10), id 2 (3,10)
 }
 
+// One object with a hold, id 1.
+fn one_held(title: usize, cost: u32, validity: u32, hold: u32) {
+    let unread = row(9, 0, 0);
+    plan_case(
+        title,
+        table(1, held_row(1, cost, validity, hold), unread, unread),
+    );
+}
+
+// Objects 1 (1,8) and 2 (5,20), the second with a hold.
+pub(crate) fn behind(hold: u32) -> Table {
+    let unread = row(9, 0, 0);
+    table(2, row(1, 1, 8), held_row(2, 5, 20, hold), unread)
+}
+
+// Holds: one that just fits and one that just does not, the largest, and those that are refused.
+fn holds() {
+    plan_case(76, behind(4)); // (1,8), (5,20) with hold 4
+    plan_case(77, behind(5)); // (1,8), (5,20) with hold 5
+    one_held(78, 70000, 400000, 65536); // (70000,400000) with hold 65536
+    one_held(79, 70000, 400000, 65537); // (70000,400000) with hold 65537
+    one_held(80, 2, 8, 0); // hold 0
+    one_held(81, 2, 8, 3); // hold above the cost
+}
+
 // Rows that are refused before they are planned.
 fn refusals() {
     one(40, 0, 10); // cost 0
@@ -132,5 +167,6 @@ pub(crate) fn cases() {
     papers();
     limits();
     ties();
+    holds();
     refusals();
 }

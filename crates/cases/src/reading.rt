@@ -114,12 +114,26 @@ fn two_records() -> [u8; 32] {
     bytes
 }
 
-// Checks 6 to 8, each at the second record, and with what would be refused later there as well.
+// Check 6 at the second record, ahead of 8 and behind 7; and the largest hold. The spare field has the hold less one.
+fn holds() {
+    let mut hold = two_records();
+    hold[14] = 1;
+    hold[20] = 1;
+    read_case(18, &hold); // hold 2 and cost 1 in the second record
+    hold[16] = 0;
+    read_case(82, &hold); // hold 2 and cost 0 in the second record
+    let mut large = one_record(20, 0);
+    large[2] = 255;
+    large[3] = 255;
+    large[4] = 0;
+    large[6] = 1;
+    large[8] = 0;
+    large[10] = 2;
+    read_case(83, &large); // hold 65536
+}
+
+// Checks 7 and 8, each at the second record, and with what would be refused later there as well.
 fn records() {
-    let mut spare = two_records();
-    spare[15] = 1;
-    spare[16] = 0;
-    read_case(18, &spare); // spare used in the second record
     let mut cost = two_records();
     cost[16] = 0;
     cost[20] = 1;
@@ -184,6 +198,7 @@ pub(crate) fn cases() {
     lengths();
     counts();
     distances();
+    holds();
     records();
     repeated();
     choices();

@@ -1,4 +1,5 @@
 // Document 01's numbers for the run: worked runs, and refused starts and readings.
+use crate::planning_cases::behind;
 use crate::planning_cases::row;
 use crate::planning_cases::table;
 use crate::titles::say;
@@ -91,6 +92,17 @@ fn wrapped() {
     printing::byte(b'\n');
 }
 
+// (1,8), first release 1, waits for 3 slots behind (5,20) with a hold of 4, first release 0, and is done at 5, its deadline.
+fn held() {
+    let started = running::start(behind(4), 0, &[1, 0]);
+    let run = started.run;
+    say(84); // (1,8), (5,20) with hold 4, first releases 1, 0
+    printing::byte(b'\n');
+    let at_five = print_slots(run, &[0, 0, 0, 0, 0]);
+    print_reading(at_five, 1);
+    printing::byte(b'\n');
+}
+
 // One start: "accepted" or the refusal, and the count of what came back.
 fn print_start(title: usize, started: Started) {
     say(title);
@@ -137,5 +149,6 @@ pub(crate) fn cases() {
     figure_two();
     stolen_slots();
     wrapped();
+    held();
     starts();
 }

@@ -1,4 +1,5 @@
 // Document 01's conditions of an acceptable run state, each broken by itself.
+use crate::planning_cases::held_row;
 use crate::planning_cases::row;
 use crate::planning_cases::table;
 use crate::run_cases::print_reading;
@@ -42,11 +43,12 @@ fn second_row() -> RunRow {
 }
 
 // The first row with other planned numbers, due in one slot.
-fn with_plan(id: u16, cost: u32, validity: u32, deadline: u32, period: u32) -> Run {
+fn with_held(id: u16, cost: u32, validity: u32, hold: u32, deadline: u32, period: u32) -> Run {
     let planned = PlanRow {
         id,
         cost,
         validity,
+        hold,
         deadline,
         period,
     };
@@ -54,6 +56,24 @@ fn with_plan(id: u16, cost: u32, validity: u32, deadline: u32, period: u32) -> R
     first.planned = planned;
     first.next = 104;
     with_first(first)
+}
+
+// The same with a hold of 1.
+fn with_plan(id: u16, cost: u32, validity: u32, deadline: u32, period: u32) -> Run {
+    with_held(id, cost, validity, 1, deadline, period)
+}
+
+// Objects 1 (2,8) and 2 (2,10), both with a hold of 2, three slots after a start at clock 100: object 2 is in its hold.
+fn holding() -> Run {
+    let unread = row(9, 0, 0);
+    let started = running::start(
+        table(2, held_row(1, 2, 8, 2), held_row(2, 2, 10, 2), unread),
+        100,
+        &[0, 0],
+    );
+    let run = started.run;
+    let stepped = running::advance(run, &[0, 0, 0]);
+    stepped.run
 }
 
 // The first row with another stored value.
@@ -117,6 +137,18 @@ fn validities() {
     state_case(41, with_plan(1, 2, 1000001, 2, 999999)); // validity 1000001
 }
 
+// The hold of a row, and the jobs that are in theirs.
+fn holds() {
+    state_case(80, with_held(1, 2, 8, 0, 2, 6)); // hold 0
+    state_case(85, with_held(1, 2, 8, 2, 2, 6)); // hold equal to the cost
+    state_case(81, with_held(1, 2, 8, 3, 2, 6)); // hold above the cost
+    state_case(86, holding()); // a job in its hold
+    let mut two = holding();
+    two.rows[0].left = 1;
+    two.rows[0].sample = 100;
+    state_case(87, two); // two jobs in their hold
+}
+
 // Release and work.
 fn jobs() {
     let mut far = first_row();
@@ -149,12 +181,20 @@ fn rests() {
     let mut beyond = good();
     beyond.rows[63].skips = 1;
     state_case(75, beyond); // a skip beyond the count
+    let mut held = good();
+    let mut last = held.rows[63];
+    let mut planned = last.planned;
+    planned.hold = 1;
+    last.planned = planned;
+    held.rows[63] = last;
+    state_case(88, held); // a hold beyond the count
 }
 
 pub(crate) fn cases() {
     counts();
     plans();
     validities();
+    holds();
     jobs();
     samples();
     rests();

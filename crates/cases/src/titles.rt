@@ -20,7 +20,7 @@ distance 20 in 20 bytes\n\
 distance 21 in 20 bytes\n\
 distance 4294967295\n\
 a gap before the record and one behind it\n\
-spare used in the second record\n\
+hold 2 and cost 1 in the second record\n\
 cost 0 in the second record\n\
 cost 1000001 in the second record\n\
 validity 1 in the second record\n\
@@ -77,7 +77,20 @@ sample in hand of age 10\n\
 the same, lapsed\n\
 no work left, sample 1\n\
 no work left, lapsed\n\
-a skip beyond the count",
+a skip beyond the count\n\
+(1,8), (5,20) with hold 4\n\
+(1,8), (5,20) with hold 5\n\
+(70000,400000) with hold 65536\n\
+(70000,400000) with hold 65537\n\
+hold 0\n\
+hold above the cost\n\
+hold 2 and cost 0 in the second record\n\
+hold 65536\n\
+(1,8), (5,20) with hold 4, first releases 1, 0\n\
+hold equal to the cost\n\
+a job in its hold\n\
+two jobs in their hold\n\
+a hold beyond the count",
         title,
     );
 }

@@ -12,9 +12,9 @@ pub use stored::object_count;
 // The numbers of one object as they are written, in range or not.
 pub struct Row {
     pub id: u64,
-    pub spare: u64,
     pub cost: u64,
     pub validity: u64,
+    pub hold: u64,
 }
 
 // The object at a place of a sheet or of a stored table.

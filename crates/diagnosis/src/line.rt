@@ -75,7 +75,7 @@ fn has_mark(bytes: &[u8]) -> bool {
 
 // The cause that lies in single bytes; 0 where none does. Other text goes first: a header has quotes or semicolons of its own.
 fn byte_fault(seen: Seen) -> usize
-    ensures { λ r. ⌜ r < 16 ⌝ }
+    ensures { λ r. ⌜ r < 17 ⌝ }
 {
     let kinds = seen.kinds;
     if kinds[7] != 0 {
@@ -98,7 +98,7 @@ fn byte_fault(seen: Seen) -> usize
 
 // The cause that lies in the end of the line or in its fields. What is left, where the line was refused, is a number too large.
 fn form_fault(seen: Seen, ended: bool) -> usize
-    ensures { λ r. ⌜ r < 16 ⌝ }
+    ensures { λ r. ⌜ r < 17 ⌝ }
 {
     let kinds = seen.kinds;
     let returns = kinds[6];
@@ -111,26 +111,30 @@ fn form_fault(seen: Seen, ended: bool) -> usize
     if (1 < returns) | !seen.last_cr {
         return 10;
     }
-    if kinds[1] < 2 {
+    let commas = kinds[1];
+    if commas < 2 {
         return 11;
     }
-    if 2 < kinds[1] {
+    if commas == 2 {
         return 12;
     }
-    if seen.empty | (seen.digits == 0) {
+    if 3 < commas {
         return 13;
     }
-    if seen.zero {
+    if seen.empty | (seen.digits == 0) {
         return 14;
     }
-    15
+    if seen.zero {
+        return 15;
+    }
+    16
 }
 
 // The cause, by number: 1 a byte order mark, 2 other text, 3 quotes, 4 semicolons or tabs, 5 blanks, 6 a point or sign, 7 an empty line,
-// 8 no line end, 9 LF alone, 10 CR within the line, 11 too few fields, 12 too many, 13 an empty field, 14 a leading zero, 15 a number too
-// large.
+// 8 no line end, 9 LF alone, 10 CR within the line, 11 too few fields, 12 three of them, as before there were holds, 13 too many, 14 an empty
+// field, 15 a leading zero, 16 a number too large.
 pub fn fault(bytes: &[u8], line: usize) -> usize
-    ensures { λ r. ⌜ r < 16 ⌝ }
+    ensures { λ r. ⌜ r < 17 ⌝ }
 {
     if (line == 0) & has_mark(bytes) {
         return 1;
@@ -152,7 +156,7 @@ pub fn fault(bytes: &[u8], line: usize) -> usize
 
 // The cause of a line that has been looked at to its end.
 fn cause(seen: Seen, ended: bool) -> usize
-    ensures { λ r. ⌜ r < 16 ⌝ }
+    ensures { λ r. ⌜ r < 17 ⌝ }
 {
     let of_bytes = byte_fault(seen);
     if of_bytes != 0 {

@@ -37,10 +37,10 @@ pub(crate) fn line_start(bytes: &[u8], line: usize) -> usize
     at
 }
 
-// A line read up to some byte: the numbers of its first three fields, and which field is open.
+// A line read up to some byte: the numbers of its first four fields, and which field is open.
 struct Fields {
     field: usize,
-    numbers: [u64; 3],
+    numbers: [u64; 4],
 }
 
 // The fields after one more byte: a digit belongs to the open field, a comma opens the next.
@@ -53,7 +53,7 @@ fn fields_after(fields: Fields, byte: u8) -> Fields {
             numbers,
         };
     }
-    if field < 3 {
+    if field < 4 {
         if (b'0' <= byte) & (byte <= b'9') {
             numbers[field] = digit_more(numbers[field], byte);
         }
@@ -75,7 +75,7 @@ fn digit_more(number: u64, digit: u8) -> u64 {
 pub(crate) fn row(bytes: &[u8], line: usize) -> Row {
     let mut fields = Fields {
         field: 0,
-        numbers: [0u64; 3],
+        numbers: [0u64; 4],
     };
     let mut at = line_start(bytes, line);
     while at < bytes.len() {
@@ -89,8 +89,8 @@ pub(crate) fn row(bytes: &[u8], line: usize) -> Row {
     let numbers = fields.numbers;
     Row {
         id: numbers[0],
-        spare: 0,
         cost: numbers[1],
         validity: numbers[2],
+        hold: numbers[3],
     }
 }

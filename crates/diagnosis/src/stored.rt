@@ -41,16 +41,17 @@ pub fn object_count(bytes: &[u8]) -> u64 {
     two_at(bytes, from_end(bytes, 4))
 }
 
-// The record at a place.
+// The record at a place. Its spare field has the hold less one.
 pub(crate) fn row(bytes: &[u8], place: usize) -> Row {
     let mut at = bytes.len();
     if place < 64 {
         at = std::num::wrapping_add_usize(from_end(bytes, distance(bytes)), 12 * place);
     }
+    let less_one = two_at(bytes, std::num::wrapping_add_usize(at, 2));
     Row {
         id: two_at(bytes, at),
-        spare: two_at(bytes, std::num::wrapping_add_usize(at, 2)),
         cost: four_at(bytes, std::num::wrapping_add_usize(at, 4)),
         validity: four_at(bytes, std::num::wrapping_add_usize(at, 8)),
+        hold: std::num::wrapping_add_u64(less_one, 1),
     }
 }

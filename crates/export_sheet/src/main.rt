@@ -4,9 +4,9 @@ use libc::STDIN_FILENO;
 use rules::Table;
 use rules::Verdict;
 
-// The lines of the table. A line of three numbers in their ranges has at most 23 bytes, and there are at most 64.
+// The lines of the table. A line of four numbers in their ranges has at most 29 bytes, and there are at most 64.
 fn write_sheet(table: Table) {
-    let mut bytes = [0u8; 1472];
+    let mut bytes = [0u8; 1856];
     let written = sheets::export(table, &mut bytes);
     let n = written.size;
     printing::text(&bytes[..n]);

@@ -6,7 +6,7 @@ use libc::STDERR_FILENO;
 use rules::Refusal;
 use rules::Table;
 
-// The sentences by number. Those of 6 to 9 begin with the record or the line.
+// The sentences by number. Those of 6 to 9 begin with the record or the line, and that of 10 goes on with what the object needs.
 fn sentence(number: usize, told: [u64; 8]) {
     complain_of(
         b"\n\
@@ -15,18 +15,18 @@ There are more than 4096 bytes, the most that a stored table may have. Is it the
 The last two bytes are not the mark ML of a stored table: the end was cut off, or it is another kind of file. A sheet has to go through import first.\n\
 The trailer counts # objects, and a table has 1 to 64. Write the table again with the right count.\n\
 The trailer says that the records begin # bytes before the end; for the count # at least # are needed. Write the table again.\n\
-# (id #): its spare bytes hold #, and they must be zero. Write the table again.\n\
+# (id #): its hold is #, and a hold is from 1 to the cost, here #, and at most 65536. Change it.\n\
 # (id #): its cost is #, and a cost is from 1 to 1000000. Change it.\n\
 # (id #): its validity is #, and a validity is from 2 to 1000000. Change it.\n\
 # (id #): number # has this id already. Give one of the two another id.\n\
-The object with id #, cost #, validity #, number # in priority order, has no deadline: it has # slots, half its validity, and within these it and the # ahead of it can bring # slots of work. Lower costs, lengthen its validity, or take out an object ahead of it.\n\
+The object with id #, cost #, validity #, number # in priority order, has no deadline: it has # slots, half its validity, and within these \n\
 There are # first releases and # objects. Give one for each object in priority order, separated by commas, or a single 0 for all.\n\
 First release # (id #) is #, and must be below the period of the object, #. Lower it.\n\
 What was handed in is not the state of a run. Start the run again.\n\
 No object has that id.\n\
 The trailer says that the records begin # bytes before the end, and there are # bytes: the beginning of the file is missing. Take it from where it was made.\n\
 The buffer is too small for what is to be written. Lend a larger one.\n\
-A line of the sheet is not of the form id,cost,validity.\n",
+A line of the sheet is not of the form id,cost,validity,hold.\n",
         number,
         told,
     );
@@ -45,10 +45,20 @@ Record \n",
     );
 }
 
+// How 10 goes on: where no job behind the object has a hold that counts, and where one has.
+fn shortfall(number: usize, told: [u64; 8]) {
+    complain_of(
+        b"it and the # ahead of it can bring # slots of work. Lower costs, lengthen its validity, or take out an object ahead of it.\n\
+# can be needed: a job behind it can keep the core for # by its hold, and it and the # ahead of it can bring # slots of work. Lower costs or holds, lengthen its validity, or take out an object ahead of it.\n",
+        number,
+        told,
+    );
+}
+
 // Why a line is not taken, by the number that `diagnosis::fault` gives it.
 fn cause(number: usize) {
     complain_of(
-        b"is not id,cost,validity ended by CR LF.\n\
+        b"is not id,cost,validity,hold ended by CR LF.\n\
 begins with a byte order mark. Save the sheet as plain text, UTF-8 without BOM.\n\
 has letters or other signs, as a header has, and only whole numbers are taken. Take the line or the signs out.\n\
 has quotes. Save the sheet without quotes.\n\
@@ -59,9 +69,10 @@ is empty. Take it out.\n\
 has no line end. End the last line with CR LF as well.\n\
 ends in LF alone. Save the sheet with CR LF at the line ends, as DOS and Windows have them.\n\
 has a CR that is not at its end. Save the sheet with CR LF at the line ends, as DOS and Windows have them.\n\
-has too few fields: a line is id,cost,validity. Add what is missing.\n\
-has too many fields: a line is id,cost,validity. Take the others out.\n\
-has an empty field: a line is id,cost,validity. Fill it in.\n\
+has too few fields: a line is id,cost,validity,hold. Add what is missing.\n\
+has three fields: the hold is missing. Add it as the fourth, 1 if the object's jobs may be set aside after any slot.\n\
+has too many fields: a line is id,cost,validity,hold. Take the others out.\n\
+has an empty field: a line is id,cost,validity,hold. Fill it in.\n\
 has a number with a leading zero. Take the zero out.\n\
 has a number that is too large: an id is at most 65535, another number at most 4294967295. Lower it.\n",
         number,
@@ -75,7 +86,7 @@ fn counted(place: usize) -> u64 {
 
 fn pick(number: usize, row: Row, earlier: usize) -> u64 {
     match number {
-        6 => row.spare,
+        6 => row.hold,
         7 => row.cost,
         8 => row.validity,
         _ => counted(earlier),
@@ -91,7 +102,7 @@ fn explain_row(number: usize, bytes: &[u8], sheet: bool, place: usize) {
     if sheet {
         noun = 3;
     }
-    let told = numbers(counted(place), row.id, wrong, 0);
+    let told = numbers(counted(place), row.id, wrong, row.cost);
     heading(noun, told);
     sentence(number, told);
 }
@@ -145,30 +156,60 @@ pub fn explain_sheet(bytes: &[u8], refusal: Refusal, place: usize) {
     end_line();
 }
 
+// The longest hold behind a place of a table in priority order, less one: so long a job there keeps the core.
+fn hold_behind(ranked: Table, place: usize) -> u32 {
+    let rows = ranked.rows;
+    let mut longest = 1;
+    for i in 0..64usize {
+        if (place < i) & (longest < rows[i].hold) {
+            longest = rows[i].hold;
+        }
+    }
+    std::num::wrapping_sub_u32(longest, 1)
+}
+
+fn larger(a: u64, b: u64) -> u64 {
+    if a < b { b } else { a }
+}
+
+// What the object at a place needs within its half: more slots than that has, in any case. Those ahead are planned here without the holds
+// from the place on; with these their periods would be as long or shorter, so that what is told is the least that they can bring.
+fn explain_need(ranked: Table, place: usize, cost: u32, half: u32) {
+    let behind = hold_behind(ranked, place);
+    let rows = ranked.rows;
+    let ahead = planning::plan_table(Table { count: place, rows });
+    let plan = ahead.plan;
+    let own = std::num::wrapping_add_u32(cost, behind);
+    let all = larger(planning::needed(plan, own, half), half as u64 + 1);
+    let work = std::num::wrapping_sub_u64(all, behind as u64);
+    if behind == 0 {
+        shortfall(0, numbers(place as u64, work, 0, 0));
+    } else {
+        shortfall(1, numbers(all, behind as u64, place as u64, work));
+    }
+}
+
 // A table that reads and has no plan, 10: which object has no deadline, and how far it is from fitting.
 pub fn explain_plan(table: Table, place: usize) {
     let answer = planning::ranked(table);
     let ranked = answer.table;
-    let rows = ranked.rows;
     if 63 < place {
         return;
     }
-    let row = rows[place];
+    let row = ranked.rows[place];
     let half = row.validity / 2;
-    let ahead = planning::plan_table(Table { count: place, rows });
-    let plan = ahead.plan;
-    let work = planning::needed(plan, row.cost, half);
     let told = [
         row.id as u64,
         row.cost as u64,
         row.validity as u64,
         counted(place),
         half as u64,
-        place as u64,
-        work,
+        0,
+        0,
         0,
     ];
     sentence(10, told);
+    explain_need(ranked, place, row.cost, half);
     end_line();
 }
 

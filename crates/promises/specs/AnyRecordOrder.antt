@@ -142,18 +142,29 @@ perm-backwards rows (suc n) h =
 -- ── Well-formed rows stay so in another order ──
 
 -- the checks pass exactly if each row is in its ranges and no id comes twice
-pub checks-apart : (at : ℕ) (seen rs : List ObjectRow) → checksFrom [] at seen rs ≡ Accepted → Every (λ r. hasId (r .id) seen ≡ false) rs × Distinct rs
+pub checks-apart : (at : ℕ) (seen rs : List ObjectRow) → checksFrom at seen rs ≡ Accepted
+    → Every (λ r. hasId (r .id) seen ≡ false) rs × Distinct rs
 checks-apart at seen [] e = (tt, tt)
 checks-apart at seen (r ∷ rs) e =
-    let f = first-passed [] at seen r rs e in
+    let f = first-passed at seen r rs e in
     let ih = checks-apart (at + 1) (seen ++ r ∷ []) rs (f .others) in
     ((f .new-id, every-more (λ x h. has-before (x .id) seen r h .0) rs (ih .0)), (every-more (λ x h. has-before (x .id) seen r h .1) rs (ih .0), ih .1))
 
-apart-checks : (at : ℕ) (seen rs : List ObjectRow) → Every Ranged rs → Every (λ r. hasId (r .id) seen ≡ false) rs → Distinct rs → checksFrom [] at seen rs ≡ Accepted
+apart-checks : (at : ℕ) (seen rs : List ObjectRow) → Every Ranged rs → Every (λ r. hasId (r .id) seen ≡ false) rs → Distinct rs
+    → checksFrom at seen rs ≡ Accepted
 apart-checks at seen [] g n d = refl
 apart-checks at seen (r ∷ rs) g n d =
     let ih = apart-checks (at + 1) (seen ++ r ∷ []) rs (g .1) (both seen r rs (n .1) (d .0)) (d .1) in
-    simp (le-leb 1 (r .cost) (g .0 .cost-from), le-leb (r .cost) 1000000 (g .0 .cost-to), le-leb 2 (r .validity) (g .0 .validity-from), le-leb (r .validity) 1000000 (g .0 .validity-to), n .0) ih
+    simp (
+      le-leb 1 (r .cost) (g .0 .cost-from),
+      le-leb (r .cost) 1000000 (g .0 .cost-to),
+      le-leb 1 (r .hold) (g .0 .hold-from),
+      le-leb (r .hold) (r .cost) (g .0 .hold-cost),
+      le-leb (r .hold) 65536 (g .0 .hold-to),
+      le-leb 2 (r .validity) (g .0 .validity-from),
+      le-leb (r .validity) 1000000 (g .0 .validity-to),
+      n .0,
+    ) ih
   where
     both : (seen : List ObjectRow) (r : ObjectRow) (xs : List ObjectRow) → Every (λ x. hasId (x .id) seen ≡ false) xs → Every (λ x. r .id ≡ x .id → ⊥) xs → Every (λ x. hasId (x .id) (seen ++ r ∷ []) ≡ false) xs
     both seen r [] a b = tt
@@ -175,7 +186,7 @@ module _ (t t′ : Table) (size : Sized t) (size′ : Sized t′) (well-formed :
   limits : (1 ≤ t .count) × (t .count ≤ 64)
   limits = count-said (t .count) (both-accept (countVerdict (t .count)) _ well-formed .0)
 
-  checked : checksFrom [] 0 [] (rowsIn t) ≡ Accepted
+  checked : checksFrom 0 [] (rowsIn t) ≡ Accepted
   checked = both-accept (countVerdict (t .count)) _ well-formed .1
 
   counts : t .count ≡ t′ .count
@@ -185,8 +196,10 @@ module _ (t t′ : Table) (size : Sized t) (size′ : Sized t′) (well-formed :
   pub still-formed : tableVerdict t′ ≡ Accepted
   still-formed =
       let l : 1 ≤ t′ .count = omega (arith, limits .0, counts) in
-      let c : checksFrom [] 0 [] (rowsIn t′) ≡ Accepted =
-      apart-checks 0 [] (rowsIn t′) (perm-every Ranged same (all-ranged [] 0 [] (rowsIn t) checked)) (perm-every (λ r. hasId (r .id) [] ≡ false) same (checks-apart 0 [] (rowsIn t) checked .0)) (perm-distinct same (checks-apart 0 [] (rowsIn t) checked .1)) in
+      let apart = checks-apart 0 [] (rowsIn t) checked in
+      let c : checksFrom 0 [] (rowsIn t′) ≡ Accepted =
+      apart-checks 0 [] (rowsIn t′) (perm-every Ranged same (all-ranged 0 [] (rowsIn t) checked))
+      (perm-every (λ r. hasId (r .id) [] ≡ false) same (apart .0)) (perm-distinct same (apart .1)) in
       rw (count-in (t′ .count) l few) c
 
   -- and it has the same plan

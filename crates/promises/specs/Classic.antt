@@ -17,7 +17,8 @@ use Rattle.rules.specs.declared.Verdict.{Verdict}
 use Rattle.rules.specs.declared.Verdict.the-variants.{Accepted, Refused}
 use Rattle.rules.specs.StoredTable.{countVerdict, rowsIn, checksFrom, tableVerdict}
 use Rattle.rules.specs.Order.{inOrder}
-use Rattle.rules.specs.Deadlines.{ceiling, brings, windowOf, needOf, smallestWithin, planRow, noPlanRow, refusedPlan, plannedRows, whereFound, planBy, planFrom, planOf}
+use Rattle.rules.specs.Deadlines.{ceiling, brings, windowOf, ownOf, needOf, smallestWithin, planRow, noPlanRow, refusedPlan, plannedRows}
+use Rattle.rules.specs.Deadlines.{whereFound, planBy, planFrom, planOf}
 use Rattle.rules.specs.HalfHalf.{halfRow, classicOf}
 use Rattle.rules.specs.Refusals.{_atPlace_, told}
 use Rattle.rules.proofs.Told.{told-settles}
@@ -54,15 +55,18 @@ brings-less (m ∷ ms) (h ∷ hs) t a =
     omega (arith, b, c, brings-less ms hs t (a .1))
 
 -- so what balances there is enough here: there is a deadline, and it is no later
-deadline-below : (ms hs : List PlanRow) (r : ObjectRow) (t : ℕ) → AllNoWorse ms hs → (2 ≤ r .validity → Ranged r) → smallestWithin hs (r .cost) (r .validity / 2) ≡ some t
-    → (d : ℕ) × (smallestWithin ms (r .cost) (r .validity / 2) ≡ some d) × (1 ≤ t) × (d ≤ t) × (t ≤ r .validity / 2)
-deadline-below ms hs r t a c e =
-    let f = found (needOf hs (r .cost)) (r .validity / 2) 1 t e in
+deadline-below : (ms hs : List PlanRow) (r : ObjectRow) (rs : List ObjectRow) (t : ℕ) → AllNoWorse ms hs → (2 ≤ r .validity → Ranged r)
+    → smallestWithin hs (ownOf r rs) (r .validity / 2) ≡ some t
+    → (d : ℕ) × (smallestWithin ms (ownOf r rs) (r .validity / 2) ≡ some d) × (1 ≤ t) × (d ≤ t) × (t ≤ r .validity / 2)
+deadline-below ms hs r rs t a c e =
+    let half = r .validity / 2 in
+    let f = found (needOf hs (ownOf r rs)) half 1 t e in
     let some-cost : 1 ≤ r .cost = c (omega (arith, f .from, f .below)) .cost-from in
-    let low : needOf ms (r .cost) t ≤ t = omega (arith, f .fixed, brings-less ms hs t a) in
-    let half : t ≤ r .validity / 2 = omega (arith, f .below) in
-    let d = found-below (needOf ms (r .cost)) (λ s u l. omega (arith, window-grows ms l)) (λ s. omega (arith, some-cost)) (r .validity / 2) t (f .from) half low in
-    (d .0, d .1, f .from, d .2, half)
+    let low : needOf ms (ownOf r rs) t ≤ t = omega (arith, f .fixed, brings-less ms hs t a) in
+    let within : t ≤ half = omega (arith, f .below) in
+    let grows : (s u : ℕ) → s ≤ u → needOf ms (ownOf r rs) s ≤ needOf ms (ownOf r rs) u = λ s u l. omega (arith, window-grows ms l) in
+    let d = found-below (needOf ms (ownOf r rs)) grows (λ s. omega (arith, some-cost)) half t (f .from) within low in
+    (d .0, d .1, f .from, d .2, within)
 
 -- ── The rows in priority order ──
 
@@ -70,19 +74,30 @@ deadline-below ms hs r t a c e =
 abbrev Both : List PlanRow → List PlanRow → List ObjectRow → Type 0
 Both ms hs rs = (planFrom ms rs .verdict ≡ Accepted) × AllNoWorse (plannedRows (planFrom ms rs .plan)) (plannedRows (planBy halfRow hs rs .plan))
 
-both-fit : (ms hs : List PlanRow) (rs : List ObjectRow) → AllNoWorse ms hs → Every (λ r. 2 ≤ r .validity → Ranged r) rs → planBy halfRow hs rs .verdict ≡ Accepted → Both ms hs rs
-both-fit ms hs [] a g e = (refl, rw (take-append-seam ms (replicate (64 - length ms) noPlanRow), take-append-seam hs (replicate (64 - length hs) noPlanRow)) a)
+both-fit : (ms hs : List PlanRow) (rs : List ObjectRow) → AllNoWorse ms hs → Every (λ r. 2 ≤ r .validity → Ranged r) rs
+    → planBy halfRow hs rs .verdict ≡ Accepted → Both ms hs rs
+both-fit ms hs [] a g e =
+    (refl, rw (take-append-seam ms (replicate (64 - length ms) noPlanRow), take-append-seam hs (replicate (64 - length hs) noPlanRow)) a)
 both-fit ms hs (r ∷ rs) a g e =
-    by-classic (smallestWithin hs (r .cost) (r .validity / 2)) refl e (λ d t n. both-fit (ms ++ (planRow r d ∷ [])) (hs ++ (halfRow r t ∷ [])) rs (more ms hs (planRow r d) (halfRow r t) a n) (g .1))
+    by-classic (smallestWithin hs (ownOf r rs) (r .validity / 2)) refl e
+    (λ d t n. both-fit (ms ++ (planRow r d ∷ [])) (hs ++ (halfRow r t ∷ [])) rs (more ms hs (planRow r d) (halfRow r t) a n) (g .1))
   where
     Next : Type 0
-    Next = (d t : ℕ) → NoWorse (planRow r d) (halfRow r t) → planBy halfRow (hs ++ (halfRow r t ∷ [])) rs .verdict ≡ Accepted → Both (ms ++ (planRow r d ∷ [])) (hs ++ (halfRow r t ∷ [])) rs
+    Next = (d t : ℕ) → NoWorse (planRow r d) (halfRow r t) → planBy halfRow (hs ++ (halfRow r t ∷ [])) rs .verdict ≡ Accepted
+        → Both (ms ++ (planRow r d ∷ [])) (hs ++ (halfRow r t ∷ [])) rs
 
-    by-classic : (o : Option ℕ) → smallestWithin hs (r .cost) (r .validity / 2) ≡ o → whereFound o (λ t. planBy halfRow (hs ++ (halfRow r t ∷ [])) rs) (refusedPlan NoDeadline (length hs)) .verdict ≡ Accepted → Next → Both ms hs (r ∷ rs)
+    by-classic : (o : Option ℕ) → smallestWithin hs (ownOf r rs) (r .validity / 2) ≡ o
+        → whereFound o (λ t. planBy halfRow (hs ++ (halfRow r t ∷ [])) rs) (refusedPlan NoDeadline (length hs)) .verdict ≡ Accepted
+        → Next → Both ms hs (r ∷ rs)
     by-classic none q e next = let z : _≡_ {A = ℕ} 0 1 = cc in absurd (omega arith)
     by-classic (some t) q e next =
-        let b = deadline-below ms hs r t a (g .0) q in
-        let n : NoWorse (planRow r (b .0)) (halfRow r t) = record { same-cost = refl; longer = omega (arith, b .3, b .4); some-period = omega (arith, b .2, b .4); sooner = omega (arith, b .3, b .4) } in
+        let b = deadline-below ms hs r rs t a (g .0) q in
+        let n : NoWorse (planRow r (b .0)) (halfRow r t) = record {
+          same-cost = refl;
+          longer = omega (arith, b .3, b .4);
+          some-period = omega (arith, b .2, b .4);
+          sooner = omega (arith, b .3, b .4);
+        } in
         rw (b .1, q) (next (b .0) t n e)
 
 -- ── The promise ──
@@ -103,5 +118,6 @@ fits-both table told-none = let both = by-verdict (tableVerdict table) refl in (
     by-verdict Accepted w =
         let c : classicOf table ≡ planBy halfRow [] rows = rw w in
         let p : planOf table ≡ planFrom [] rows = rw w in
-        let ranged = ordered-ranged (table .rows) (table .count) (both-accept (countVerdict (table .count)) (checksFrom [] 0 [] (rowsIn table)) w .1) in
+        let checked = both-accept (countVerdict (table .count)) (checksFrom 0 [] (rowsIn table)) w .1 in
+        let ranged = ordered-ranged (table .rows) (table .count) checked in
         rw (c, p) (both-fit [] [] rows tt ranged (ap (λ (x : Planned). x .verdict) (sym c) ∙ e))

@@ -17,13 +17,12 @@ use Rattle.rules.specs.declared.Run.{Run}
 use Rattle.rules.specs.declared.Stored.{Stored}
 use Rattle.rules.specs.declared.Stored.the-variants.{Empty, Held, Lapsed}
 use Rattle.rules.specs.RunState.{ageOf, dueIn, planOk, nextOk, leftOk, storedOk, restOk, handOk, rowOk, rowNone, every, idOf, distinct}
-use Rattle.rules.specs.RunState.{usedRows, acceptable}
+use Rattle.rules.specs.RunState.{oneHold, usedRows, acceptable}
 use Rattle.rules.specs.Run.{noRunRow, slotOf}
 use Rattle.rules.proofs.Lists.{Every, every-take, every-drop}
 use Rattle.rules.proofs.Tests.{and-left, and-right, both-true}
 use Rattle.theory.specs.Model.{Object, at, objects, history, Bounded, Past}
-use Rattle.theory.specs.Holds.{no-holders}
-use Rattle.theory.specs.Prefix.{unheld-none}
+use Rattle.theory.specs.Plain.{Whole}
 use Rattle.promises.specs.Runs.{runAfter, Low, Fits, plans}
 use Rattle.promises.specs.Encode.{objectOf, sampleOf, lapsedOf, storedOf, encode, encodes, encodeRun, fromOf, sampledIn, valueIn}
 use Rattle.promises.specs.Encode.{decode, beyond, statesAt, courseOf}
@@ -31,7 +30,10 @@ use Rattle.promises.specs.Clock.{from-clock, from-due, from-sampled, sam
 use Rattle.theory.specs.Cases.{cond-holds}
 use Rattle.promises.specs.Tests.{and-parts}
 use Rattle.promises.specs.Sound.{Sound, ok-sound}
-use Rattle.promises.specs.Tie.{unheld-from, Encodable, encodable-after, run-history, encoded-acceptable, encoded-fits}
+use Rattle.promises.specs.Steps.{Known, SameHold, Each, hold-row}
+use Rattle.promises.specs.Steps.Each.{over, also}
+use Rattle.promises.specs.Holds.{one-from}
+use Rattle.promises.specs.Tie.{Encodable, encodable-after, run-history, encoded-acceptable, encoded-fits}
 
 -- ── One row ──
 
@@ -138,6 +140,21 @@ decoded-past clock row = record {
   stored = value-past clock (row .stored);
 }
 
+-- the job in hand has its cost as its work
+decoded-whole : (clock : ℕ) (row : RunRow) → Whole (decode clock row)
+unfolding decode
+decoded-whole clock row h = rw (ne-eqb (row .left) 0 (λ z. omega arith))
+
+decoded-known : (clock : ℕ) (row : RunRow) → RowSays clock row → Known (fromOf clock) (row .planned) (decode clock row)
+unfolding decode
+decoded-known clock row says = record {
+  sound = says .sound;
+  planned-is = refl;
+  bounded = decoded-bounded clock row says;
+  past = decoded-past clock row;
+  whole = decoded-whole clock row;
+}
+
 -- ── The rows ──
 
 decoded-rows : (clock : ℕ) (rows : List RunRow) → clock < 2 ^ 32 → Every Low rows → every (rowOk clock) rows ≡ true
@@ -160,6 +177,15 @@ decoded-at clock [] i h = absurd (omega arith)
 decoded-at clock (r ∷ rs) zero h = refl
 decoded-at clock (r ∷ rs) (suc i) h = decoded-at clock rs i (omega arith)
 
+decoded-holds : (clock : ℕ) (rows : List RunRow) → every (rowOk clock) rows ≡ true
+    → Each (SameHold (fromOf clock)) (plans rows) (map (decode clock) rows)
+unfolding every
+decoded-holds clock [] ok = over
+decoded-holds clock (r ∷ rs) ok =
+    let b = both-true (rowOk clock r) (every (rowOk clock) rs) ok in
+    let known = decoded-known clock r (row-says clock r (b .0)) in
+    also (hold-row (fromOf clock) (r .planned) (decode clock r) known) (decoded-holds clock rs (b .1))
+
 plan-ids : (rows : List RunRow) → map idOf rows ≡ map (λ (p : PlanRow). p .id) (plans rows)
 plan-ids [] = refl
 plan-ids (r ∷ rs) = ap {B = List ℕ} (λ l. r .planned .id ∷ l) (plan-ids rs)
@@ -180,14 +206,25 @@ pub record RunSays (run : Run) : Type 0 where
   pub rows-ok : every (rowOk (run .clock)) (usedRows run) ≡ true
   pub none-beyond : every rowNone (drop (run .count) (run .rows)) ≡ true
   pub ids-differ : distinct (map idOf (usedRows run)) ≡ true
+  pub one-hold : oneHold (usedRows run) ≡ true
 
 pub run-says : (run : Run) → acceptable run ≡ true → RunSays run
 unfolding acceptable
 run-says run ok =
     let rows-ok = every (rowOk (run .clock)) (usedRows run) in
     let none-beyond = every rowNone (drop (run .count) (run .rows)) in
-    let q = and-parts (leb 1 (run .count)) (leb (run .count) 64) rows-ok none-beyond (distinct (map idOf (usedRows run))) ok in
-    record { count-pos = leb-true _ _ (q .0); count-le = leb-true _ _ (q .1); rows-ok = q .2; none-beyond = q .3; ids-differ = q .4 }
+    let ids-differ = distinct (map idOf (usedRows run)) in
+    let others = leb 1 (run .count) && leb (run .count) 64 && rows-ok && none-beyond && ids-differ in
+    let b = both-true others (oneHold (usedRows run)) ok in
+    let q = and-parts (leb 1 (run .count)) (leb (run .count) 64) rows-ok none-beyond ids-differ (b .0) in
+    record {
+      count-pos = leb-true _ _ (q .0);
+      count-le = leb-true _ _ (q .1);
+      rows-ok = q .2;
+      none-beyond = q .3;
+      ids-differ = q .4;
+      one-hold = b .1;
+    }
 
 module _ (run : Run) (w : Fits run) (ok : acceptable run ≡ true) where
   pub accept-size : run .count ≤ length (run .rows)
@@ -214,7 +251,9 @@ module _ (run : Run) (w : Fits run) (ok : acceptable run ≡ true) where
       let same = decoded-objects clock (usedRows run) in
       let used : (i : ℕ) → i < length (statesAt run) → i < length (usedRows run) = λ i h.
       rw (length-map (usedRows run) (decode clock)) at h in
-      let none = unheld-none 0 (statesAt run) (rw same (unheld-from (plans (usedRows run)) 0)) in
+      let low = every-take Low (run .count) (run .rows) (w .rows-low) in
+      let rows-are = decoded-rows clock (usedRows run) (w .clock-low) low (r .rows-ok) in
+      let one = one-from (fromOf clock) (decoded-holds clock (usedRows run) (r .rows-ok)) (rw rows-are (r .one-hold)) in
       record {
         count-pos = omega (arith, plans-length, r .count-pos);
         size = omega (arith, plans-length, length-drop (run .count) (run .rows), w .size, r .count-le);
@@ -225,12 +264,13 @@ module _ (run : Run) (w : Fits run) (ok : acceptable run ≡ true) where
         none-beyond = r .none-beyond;
         low-beyond = every-drop Low (run .count) (run .rows) (w .rows-low);
         objects-are = same;
+        whole = λ i h. rw (decoded-at clock (usedRows run) i (used i h)) (decoded-whole clock (getD (usedRows run) i noRunRow));
         acceptable-then = record {
           bounded = λ i h.
               let l = used i h in
               rw (decoded-at clock (usedRows run) i l) (decoded-bounded clock (getD (usedRows run) i noRunRow) (says i l));
           past = λ i h. rw (decoded-at clock (usedRows run) i (used i h)) (decoded-past clock (getD (usedRows run) i noRunRow));
-          one-hold = omega (arith, no-holders (statesAt run) none);
+          one-hold = one;
         };
       }
 

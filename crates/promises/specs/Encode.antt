@@ -18,9 +18,9 @@ use Rattle.rules.specs.Run.{noRunRow, storedAs}
 use Rattle.theory.specs.Model.{Object, State, Course}
 use Rattle.theory.specs.Start.{starts}
 
--- a planned row as an object of the theory: with a hold of 1 a job never keeps the core
+-- a planned row as an object of the theory
 abbrev pub objectOf : PlanRow → Object
-objectOf p = record { cost = p .cost; validity = p .validity; deadline = p .deadline; period = p .period; hold = 1 }
+objectOf p = record { cost = p .cost; validity = p .validity; deadline = p .deadline; period = p .period; hold = p .hold }
 
 -- a course of these states from the instant `from` on. A work of 0 is outside 1 to the cost, so it stands for the cost
 abbrev pub courseFrom : ℕ → List State → (ℕ → Bool) → Course

@@ -6,7 +6,7 @@ use mathlib.Core.Bool.{Bool, false, cond}
 use mathlib.Core.List.{List, [], _∷_, map}
 use mathlib.Core.Option.{Option, none, some}
 use native.Mathlib.Omega.{arith}
-use lib.Dec.{eqb, ltb}
+use lib.Dec.{ltb}
 use lib.ListN.{length}
 use borrow.Author.Tests.{le-ltb}
 use Rattle.rules.specs.declared.ObjectRow.{ObjectRow}
@@ -15,8 +15,8 @@ use Rattle.rules.specs.declared.Run.{Run}
 use Rattle.rules.specs.declared.Reading.{Reading}
 use Rattle.rules.specs.declared.Reading.the-variants.{Never, Stale, Fresh}
 use Rattle.rules.specs.StoredTable.{tableOf}
-use Rattle.rules.specs.RunState.{usedRows, rowOk, rowNone, every, notIn, distinct, acceptable}
-use Rattle.rules.specs.Run.{startOf, releasedOf, stepOne, servedOf, serveFirst, agedOf, slotOf, isStolen, slotsOf, advancedOf}
+use Rattle.rules.specs.RunState.{inHold, any, oneHold, usedRows, rowOk, rowNone, every, notIn, distinct, acceptable}
+use Rattle.rules.specs.Run.{startOf, releasedOf, stepOne, servedOf, serveFirst, mayWork, agedOf, slotOf, isStolen, slotsOf, advancedOf}
 use Rattle.rules.specs.Run.{readFrom, readingOf}
 use Rattle.rules.specs.Numbers.{row}
 use Rattle.theory.specs.Model.{State, history}
@@ -45,14 +45,17 @@ pub record Seen : Type 0 where
   pub lefts : List ℕ
   pub skips : List ℕ
 
--- the id of the first row with work left
-abbrev firstWork : List RunRow → ℕ
-firstWork [] = 0
-firstWork (r ∷ rs) = cond (eqb (r .left) 0) (firstWork rs) (r .planned .id)
+-- the id of the first row that may work
+abbrev firstOf : (RunRow → Bool) → List RunRow → ℕ
+firstOf p [] = 0
+firstOf p (r ∷ rs) = cond (p r) (r .planned .id) (firstOf p rs)
+
+abbrev worker : List RunRow → ℕ
+worker rows = firstOf (mayWork (any inHold rows)) rows
 
 abbrev wentTo : Run → List ℕ → List ℕ
 wentTo run [] = []
-wentTo run (s ∷ ss) = cond (isStolen s) 0 (firstWork (stepOne (run .clock) (usedRows run))) ∷ wentTo (slotOf run (isStolen s)) ss
+wentTo run (s ∷ ss) = cond (isStolen s) 0 (worker (stepOne (run .clock) (usedRows run))) ∷ wentTo (slotOf run (isStolen s)) ss
 
 abbrev seen : Given → Seen
 seen c =
@@ -68,6 +71,10 @@ seen c =
       lefts = map (λ (r : RunRow). r .left) (usedRows run);
       skips = map (λ (r : RunRow). r .skips) (usedRows run);
     }
+
+-- an object row with its hold
+abbrev held : ℕ → ℕ → ℕ → ℕ → ObjectRow
+held i c v h = record { id = i; cost = c; validity = v; hold = h }
 
 -- 002, Figure 2
 abbrev figure-2 : List ObjectRow
@@ -118,10 +125,24 @@ table =
       given = record { rows = row 1 1 4 ∷ []; clock = 4294967295; firsts = 0 ∷ []; slots = 0 ∷ [] };
       answer = record { clock = 0; went = 1 ∷ []; readings = Fresh 1 ∷ []; ages = some 1 ∷ []; lefts = 0 ∷ []; skips = 0 ∷ [] };
     }
+    -- request 6: (1,8), and (4,20) with h of 3, which has begun when the first is released: it keeps the core until it has done 3 units,
+    -- but for the stolen slot; then the first goes ahead of its last unit
+    ∷ record {
+      given = record { rows = row 1 1 8 ∷ held 2 4 20 3 ∷ []; clock = 0; firsts = 1 ∷ 0 ∷ []; slots = 0 ∷ 0 ∷ 1 ∷ 0 ∷ 0 ∷ 0 ∷ [] };
+      answer = record {
+        clock = 6;
+        went = 2 ∷ 2 ∷ 0 ∷ 2 ∷ 1 ∷ 2 ∷ [];
+        readings = Fresh 5 ∷ Fresh 6 ∷ [];
+        ages = some 5 ∷ some 6 ∷ [];
+        lefts = 0 ∷ 0 ∷ [];
+        skips = 0 ∷ 0 ∷ [];
+      };
+    }
     ∷ []
 
 pub right : map (λ (c : Case). seen (c .given)) table ≡ map (λ (c : Case). c .answer) table
-unfolding releasedOf servedOf serveFirst agedOf slotOf slotsOf advancedOf readFrom readingOf acceptable rowOk rowNone every notIn distinct history starts slotFlags
+unfolding releasedOf servedOf serveFirst mayWork inHold any agedOf slotOf slotsOf advancedOf readFrom readingOf history starts slotFlags
+    acceptable rowOk rowNone every notIn distinct oneHold
 right = refl
 
 -- ── Demand 3 put to use ──
@@ -134,7 +155,7 @@ figure-2-run = runOf (tableOf figure-2) 4294967290 (2 ∷ 1 ∷ 0 ∷ []) none-s
 
 -- instant 6 has nothing left over, though no slot was idle
 figure-2-rests : NothingLeft (figure-2-run 6)
-unfolding runAfter releasedOf servedOf serveFirst agedOf slotOf
+unfolding runAfter releasedOf servedOf serveFirst mayWork inHold any agedOf slotOf
 figure-2-rests zero h = refl
 figure-2-rests (suc zero) h = refl
 figure-2-rests (suc (suc zero)) h = refl
@@ -143,8 +164,9 @@ figure-2-rests (suc (suc (suc i))) h = absurd (omega arith)
 -- so from instant 18 on the third object is fresh for ever, with an age below 12, across the wrap of the clock
 pub figure-2-fresh : (t : ℕ) → 18 ≤ t → (age : ℕ) × (readingOf (figure-2-run t) 3 ≡ Fresh age) × (age < 12)
 figure-2-fresh t h =
-    kept .of-start (tableOf figure-2) 4294967290 (2 ∷ 1 ∷ 0 ∷ []) refl (omega arith) .demand-3 none-stolen 6 t figure-2-rests (λ u x y. refl) 2
-    (record { plan = record { id = 3; cost = 2; validity = 12; deadline = 6; period = 6 }; first = 0 }) refl .fresh t h (omega arith)
+    let third : RunObject = record { plan = record { id = 3; cost = 2; validity = 12; hold = 1; deadline = 6; period = 6 }; first = 0 } in
+    let started = kept .of-start (tableOf figure-2) 4294967290 (2 ∷ 1 ∷ 0 ∷ []) refl (omega arith) in
+    started .demand-3 none-stolen 6 t figure-2-rests (λ u x y. refl) 2 third refl .fresh t h (omega arith)
 
 -- (1,2), first release 0, slots 0 to 2 stolen: three skips, and instant 4 has nothing left over
 abbrev three-stolen : ℕ → Bool
@@ -154,13 +176,13 @@ abbrev stolen-run : ℕ → Run
 stolen-run = runOf (tableOf (row 1 1 2 ∷ [])) 4294967294 (0 ∷ []) three-stolen
 
 stolen-rests : NothingLeft (stolen-run 4)
-unfolding runAfter releasedOf servedOf serveFirst agedOf slotOf
+unfolding runAfter releasedOf servedOf serveFirst mayWork inHold any agedOf slotOf
 stolen-rests zero h = refl
 stolen-rests (suc i) h = absurd (omega arith)
 
 -- so from instant 4 on all is promised that demand 3 promises
 abbrev only-object : RunObject
-only-object = record { plan = record { id = 1; cost = 1; validity = 2; deadline = 1; period = 1 }; first = 0 }
+only-object = record { plan = record { id = 1; cost = 1; validity = 2; hold = 1; deadline = 1; period = 1 }; first = 0 }
 
 pub promised-again : (e : ℕ) → Promised stolen-run 0 only-object 4 e
 promised-again e =
@@ -169,7 +191,7 @@ promised-again e =
 
 -- no skip is added to the three, and from instant 6 on the object is fresh, across the wrap of the clock
 three-skips : runRow (stolen-run 4) 0 .skips ≡ 3
-unfolding runAfter releasedOf servedOf serveFirst agedOf slotOf
+unfolding runAfter releasedOf servedOf serveFirst mayWork inHold any agedOf slotOf
 three-skips = refl
 
 pub no-fourth-skip : (t : ℕ) → 4 ≤ t → runRow (stolen-run t) 0 .skips ≡ 3

@@ -1,6 +1,6 @@
 -- Rows that the rules call planned are planned in the theory: its words for plans mean the same. So demand 3 holds in true time.
 -- Assumes planned rows, and acceptable states at the beginning.
-use Prim.Native.Nat.{ℕ, zero, suc, _+_, _≤_, _<_}
+use Prim.Native.Nat.{ℕ, zero, suc, _+_, _-_, _≤_, _<_, max}
 use mathlib.Core.Path.{_≡_, refl, ap, _∙_}
 use mathlib.Core.List.{List, [], _∷_, map}
 use native.Mathlib.Omega.{arith}
@@ -15,7 +15,7 @@ use Rattle.theory.specs.Releases.{ReleaseOf}
 use Rattle.theory.specs.InTime.{Kept}
 use Rattle.theory.specs.Plans.{balanced-meets}
 use Rattle.theory.specs.Theorems.{in-time, none-skipped, always-fresh}
-use Rattle.promises.specs.Plans.{PlannedRows}
+use Rattle.promises.specs.Plans.{unplanned, PlannedRows}
 use Rattle.promises.specs.Sound.{planned-sound}
 use Rattle.promises.specs.Encode.{objectOf}
 use Rattle.promises.specs.Tie.{object-at}
@@ -28,11 +28,11 @@ unfolding windowOf
 window-same [] t = refl
 window-same (p ∷ ps) t = ap (λ n. rules.brings t p + n) (window-same ps t)
 
--- nothing but one unit is held
-none-held : (ps : List PlanRow) → holdBehind (map objectOf ps) ≡ 0
+-- and the largest hold behind
+pub hold-same : (ps : List PlanRow) → holdBehind (map objectOf ps) ≡ rules.holdBehind (map unplanned ps)
 unfolding holdBehind
-none-held [] = refl
-none-held (p ∷ ps) = omega (arith, none-held ps)
+hold-same [] = refl
+hold-same (p ∷ ps) = ap (max (p .hold - 1)) (hold-same ps)
 
 take-objects : (i : ℕ) (ps : List PlanRow) → take i (map objectOf ps) ≡ map objectOf (take i ps)
 take-objects zero ps = refl
@@ -51,9 +51,9 @@ planned-objects ps pl i h =
     let ahead = take i ps in
     let behind = drop (suc i) ps in
     let m = pl i l in
-    let s = planned-sound ahead p m in
+    let s = planned-sound m in
     let balances : needOf (map objectOf ahead) (p .cost + holdBehind (map objectOf behind)) (p .deadline) ≡ p .deadline =
-    omega (arith, window-same ahead (p .deadline), none-held behind, m .balances) in
+    omega (arith, window-same ahead (p .deadline), hold-same behind, m .balances) in
     rw (object-at ps i l, take-objects i ps, drop-objects (suc i) ps)
     (balanced-meets (map objectOf ahead) (map objectOf behind) (objectOf p) (m .cost-pos) (s .within) (p .deadline) balances (omega arith))
 
@@ -76,7 +76,7 @@ kept-in-history c ps same pl ok b e q given i h =
     let l : i < length (c .begin) = rw (← objects-length (c .begin), same, length-map ps objectOf) h in
     let is : planAt c i ≡ objectOf (getD ps i noPlanRow) =
     objects-at (c .begin) i l ∙ (ap (λ (os : List Object). object os i) same ∙ object-at ps i h) in
-    let s = planned-sound _ _ (pl i h) in
+    let s = planned-sound (pl i h) in
     record {
       each-release = in-time c ok planned i l b e given q;
       no-skip = none-skipped c ok planned i l b e given q;

@@ -11,6 +11,7 @@ use Rattle.rules.specs.RunState.{acceptable}
 use Rattle.rules.specs.Deadlines.{planOf}
 use Rattle.rules.specs.Run.{startOf, steppedOf}
 use Rattle.promises.specs.OnlyOrder.{order-is, only-order}
+use Rattle.promises.specs.HoldsOfOne.{plan-is-01, step-is-01}
 use Rattle.promises.specs.PlanExactly.{each-planned, planned-or-10, ten-exactly}
 use Rattle.promises.specs.StartExactly.{start-exactly}
 use Rattle.promises.specs.ReadExactly.{reads-13-exactly, reads-14-exactly}
@@ -61,6 +62,8 @@ kept = record {
   of-run = of-run;
   reads-13 = reads-13-exactly;
   reads-14 = reads-14-exactly;
+  plan-01 = plan-is-01;
+  step-01 = step-is-01;
   same-ahead = same-tables;
   in-history = kept-in-history;
 }

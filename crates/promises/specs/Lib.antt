@@ -1,3 +1,4 @@
+pub mod HoldsOfOne
 pub mod Exactly
 pub mod Covers
 pub mod OnlyOrder
@@ -15,6 +16,7 @@ pub mod Encode
 pub mod Clock
 pub mod Slots
 pub mod Steps
+pub mod Holds
 pub mod Tie
 pub mod Decode
 pub mod InHistory

@@ -6,18 +6,18 @@ use mathlib.Core.Logic.{_↔_, _⊎_, inl, inr}
 use mathlib.Core.Bool.{Bool, true, false, not, _&&_}
 use mathlib.Core.List.{List, [], _∷_, _++_, append-assoc, append-nil}
 use native.Mathlib.Omega.{arith}
-use lib.Dec.{eqb, leb}
-use lib.ListN.{length, take, getD}
+use lib.Dec.{leb}
+use lib.ListN.{take, drop, getD}
 use Rattle.rules.specs.declared.ObjectRow.{ObjectRow}
 use Rattle.rules.specs.declared.PlanRow.{PlanRow}
 use Rattle.rules.specs.declared.Planned.{Planned}
 use Rattle.rules.specs.declared.Table.{Table}
 use Rattle.rules.specs.declared.Refusal.{Refusal}
-use Rattle.rules.specs.declared.Refusal.the-variants.{CountRange, SpareUsed, CostRange, ValidityRange, IdRepeated, NoDeadline}
+use Rattle.rules.specs.declared.Refusal.the-variants.{CountRange, HoldRange, CostRange, ValidityRange, IdRepeated, NoDeadline}
 use Rattle.rules.specs.declared.Verdict.{Verdict}
 use Rattle.rules.specs.declared.Verdict.the-variants.{Accepted, Refused}
 use Rattle.rules.specs.Refusals.{_atPlace_, told, must, firstRefusal}
-use Rattle.rules.specs.StoredTable.{noRow, rowsIn, inRange, hasId, checksFrom, countVerdict, rowVerdict, tableVerdict}
+use Rattle.rules.specs.StoredTable.{noRow, rowsIn, inRange, holdOk, hasId, checksFrom, countVerdict, rowVerdict, tableVerdict}
 use Rattle.rules.specs.Order.{rowAt, orderOf, inOrder}
 use Rattle.rules.specs.Deadlines.{planRow, noPlanRow, planOf, plannedRows}
 use Rattle.rules.proofs.Lists.{Every}
@@ -46,20 +46,20 @@ IdsDiffer table = (p q : ℕ) → p < table .count → q < table .count → rowA
 
 -- ── Each deadline ──
 
--- the object row r is planned as p behind the planned rows `ahead`: "the period is validity minus deadline"
-pub record PlannedBehind (ahead : List PlanRow) (r : ObjectRow) (p : PlanRow) : Type 0 where
-  pub deadline : SmallestCover ahead r (p .deadline)
+-- the object row r is planned as p between the planned rows `ahead` and the object rows `behind`: "the period is validity minus deadline"
+pub record PlannedBetween (ahead : List PlanRow) (r : ObjectRow) (behind : List ObjectRow) (p : PlanRow) : Type 0 where
+  pub deadline : SmallestCover ahead r behind (p .deadline)
   pub others : p ≡ planRow r (p .deadline)
 
-planned-behind : {ahead : List PlanRow} {rs : List ObjectRow} {ps : List PlanRow} → PlannedAs ahead rs ps
-    → Every (λ r. 2 ≤ r .validity → Ranged r) rs → (i : ℕ) → i < length rs
-    → PlannedBehind (ahead ++ take i ps) (getD rs i noRow) (getD ps i noPlanRow)
-planned-behind done a i h = absurd (omega arith)
-planned-behind (next {ahead = ahead} {r = r} t k b) a zero h =
+planned-between : {k : ℕ} {ahead : List PlanRow} {rs : List ObjectRow} {ps : List PlanRow} → PlannedAs k ahead rs ps
+    → Every (λ r. 2 ≤ r .validity → Ranged r) rs → (i : ℕ) → i < k
+    → PlannedBetween (ahead ++ take i ps) (getD rs i noRow) (drop (suc i) rs) (getD ps i noPlanRow)
+planned-between done a i h = absurd (omega arith)
+planned-between (next {ahead = ahead} {r = r} {rs = rs} t k b) a zero h =
     let some-cost = a .0 (omega (arith, k .one, k .half)) .cost-from in
-    rw (append-nil ahead) (record { deadline = deadline-covers ahead r some-cost t .0 k; others = refl })
-planned-behind (next {ahead = ahead} {r = r} {plans = ps} t k b) a (suc i) h =
-    rw (append-assoc ahead (planRow r t ∷ []) (take i ps)) at (planned-behind b (a .1) i (omega arith))
+    rw (append-nil ahead) (record { deadline = deadline-covers ahead r rs some-cost t .0 k; others = refl })
+planned-between (next {ahead = ahead} {r = r} {plans = ps} t k b) a (suc i) h =
+    rw (append-assoc ahead (planRow r t ∷ []) (take i ps)) at (planned-between b (a .1) i (omega arith))
 
 -- the table's own checks accept a table that is planned
 pub planned-formed : (table : Table) → planOf table .verdict ≡ Accepted → tableVerdict table ≡ Accepted
@@ -71,10 +71,11 @@ planned-formed table e = by-verdict (tableVerdict table) refl
 
 -- each object of a planned table, in priority order
 pub each-planned : (table : Table) → planOf table .verdict ≡ Accepted → (i : ℕ) → i < table .count
-    → PlannedBehind (take i (plansIn table)) (getD (ordered table) i noRow) (getD (plansIn table) i noPlanRow)
+    → PlannedBetween (take i (plansIn table)) (getD (ordered table) i noRow) (drop (suc i) (ordered table))
+    (getD (plansIn table) i noPlanRow)
 each-planned table e i h =
     let ok = both-accept (countVerdict (table .count)) _ (planned-formed table e) .1 in
-    planned-behind (planned-as table e) (ordered-ranged (table .rows) (table .count) ok) i
+    planned-between (planned-as table e) (ordered-ranged (table .rows) (table .count) ok) i
     (rw (in-order-length (table .rows) (table .count)) h)
 
 -- ── 10 ──
@@ -83,7 +84,7 @@ each-planned table e i h =
 abbrev Not10 : ℕ → Verdict → Type 0
 Not10 k v = v ≡ Refused NoDeadline k → ⊥
 
--- checks 4 and 6 to 9 do not
+-- checks 4, 7, 6, 8 and 9 do not
 module _ (k : ℕ) where
   no-test : (t : Bool) (r : Refusal) (j : ℕ) → Not10 k (Refused r j) → Not10 k (must t r j)
   no-test true r j n e = refused-not (sym e)
@@ -93,23 +94,22 @@ module _ (k : ℕ) where
   no-first Accepted w m n = n
   no-first (Refused r j) w m n = m
 
-  row-not-10 : (spare at : ℕ) (seen : List ObjectRow) (r : ObjectRow) → Not10 k (rowVerdict spare at seen r)
-  row-not-10 spare at seen r =
-      no-first _ _ (no-test (eqb spare 0) SpareUsed at (λ e. let z : _≡_ {A = ℕ} 0 1 = cc in omega arith))
-      (no-first _ _ (no-test (inRange 1 (r .cost)) CostRange at (λ e. let z : _≡_ {A = ℕ} 0 1 = cc in omega arith))
+  row-not-10 : (at : ℕ) (seen : List ObjectRow) (r : ObjectRow) → Not10 k (rowVerdict at seen r)
+  row-not-10 at seen r =
+      no-first _ _ (no-test (inRange 1 (r .cost)) CostRange at (λ e. let z : _≡_ {A = ℕ} 0 1 = cc in omega arith))
+      (no-first _ _ (no-test (holdOk (r .cost) (r .hold)) HoldRange at (λ e. let z : _≡_ {A = ℕ} 0 1 = cc in omega arith))
       (no-first _ _ (no-test (inRange 2 (r .validity)) ValidityRange at (λ e. let z : _≡_ {A = ℕ} 0 1 = cc in omega arith))
       (no-first _ _ (no-test (not (hasId (r .id) seen)) IdRepeated at (λ e. let z : _≡_ {A = ℕ} 0 1 = cc in omega arith))
       (λ e. refused-not (sym e)))))
 
-  checks-not-10 : (spares : List ℕ) (at : ℕ) (seen rs : List ObjectRow) → Not10 k (checksFrom spares at seen rs)
-  checks-not-10 spares at seen [] = λ e. refused-not (sym e)
-  checks-not-10 spares at seen (r ∷ rs) =
-      no-first _ _ (row-not-10 (getD spares at 0) at seen r) (checks-not-10 spares (at + 1) (seen ++ r ∷ []) rs)
+  checks-not-10 : (at : ℕ) (seen rs : List ObjectRow) → Not10 k (checksFrom at seen rs)
+  checks-not-10 at seen [] = λ e. refused-not (sym e)
+  checks-not-10 at seen (r ∷ rs) = no-first _ _ (row-not-10 at seen r) (checks-not-10 (at + 1) (seen ++ r ∷ []) rs)
 
   table-not-10 : (table : Table) → Not10 k (tableVerdict table)
   table-not-10 table =
       no-first _ _ (no-test (leb 1 (table .count) && leb (table .count) 64) CountRange 0 (λ e. let z : _≡_ {A = ℕ} 0 1 = cc in omega arith))
-      (checks-not-10 [] 0 [] (rowsIn table))
+      (checks-not-10 0 [] (rowsIn table))
 
 -- 10 is told at a place exactly if the table is well-formed and the object there is the first without a deadline
 pub ten-exactly : (table : Table) (k : ℕ)

@@ -7,18 +7,18 @@ use mathlib.Core.Bool.{Bool, true, false, cond}
 use mathlib.Core.List.{List, [], _∷_, _++_, map, append-assoc, append-nil}
 use native.Mathlib.Decide.{decLt}
 use native.Mathlib.Omega.{arith}
-use lib.ListN.{length, take, getD, length-take, List·getD-eq-default}
+use lib.ListN.{length, take, drop, getD, length-map, length-take, List·getD-eq-default}
 use lib.Seq.{getD-take}
-use borrow.Author.Tests.{ne-eqb}
+use borrow.Author.Tests.{ne-eqb, le-leb}
 use Rattle.rules.specs.declared.ObjectRow.{ObjectRow}
 use Rattle.rules.specs.declared.PlanRow.{PlanRow}
 use Rattle.rules.specs.declared.Planned.{Planned}
 use Rattle.rules.specs.declared.Table.{Table}
 use Rattle.rules.specs.declared.Verdict.{Verdict}
 use Rattle.rules.specs.declared.Verdict.the-variants.{Accepted, Refused}
-use Rattle.rules.specs.StoredTable.{noRow, rowsIn, countVerdict, checksFrom, tableVerdict}
+use Rattle.rules.specs.StoredTable.{noRow, rowsIn, holdOk, countVerdict, checksFrom, tableVerdict}
 use Rattle.rules.specs.Order.{isAhead, rowAt, rowsAt, insertPlace, placesOf, inOrder}
-use Rattle.rules.specs.Deadlines.{needOf, planRow, noPlanRow, onAccepted, planFrom, planOf, plannedRows}
+use Rattle.rules.specs.Deadlines.{ownOf, needOf, planRow, noPlanRow, onAccepted, planFrom, planOf, plannedRows}
 use Rattle.rules.specs.RunState.{notIn, distinct}
 use Rattle.rules.proofs.Lists.{Every, Pairwise, every-more, every-at, pairwise-at}
 use Rattle.rules.proofs.Places.{insert-every, places-below, in-order-length}
@@ -30,17 +30,22 @@ use Rattle.promises.specs.SamePlan.{planned-as}
 
 -- ── What is promised of a plan ──
 
--- a planned row, where `ahead` are the rows ahead of it
-pub record PlannedRow (ahead : List PlanRow) (p : PlanRow) : Type 0 where
+-- the object row that a planned row is the plan of
+abbrev pub unplanned : PlanRow → ObjectRow
+unplanned p = record { id = p .id; cost = p .cost; validity = p .validity; hold = p .hold }
+
+-- a planned row, where `ahead` are the rows ahead of it and `behind` those behind it
+pub record PlannedRow (ahead behind : List PlanRow) (p : PlanRow) : Type 0 where
   pub cost-pos : 1 ≤ p .cost
-  pub balances : needOf ahead (p .cost) (p .deadline) ≡ p .deadline
+  pub hold-ok : holdOk (p .cost) (p .hold) ≡ true
+  pub balances : needOf ahead (ownOf (unplanned p) (map unplanned behind)) (p .deadline) ≡ p .deadline
   pub half : 2 * p .deadline ≤ p .validity
   pub period-is : p .period ≡ p .validity - p .deadline
   pub small : p .validity ≤ 1000000
 
 -- each row of a plan
 abbrev pub PlannedRows : List PlanRow → Type 0
-PlannedRows plans = (i : ℕ) → i < length plans → PlannedRow (take i plans) (getD plans i noPlanRow)
+PlannedRows plans = (i : ℕ) → i < length plans → PlannedRow (take i plans) (drop (suc i) plans) (getD plans i noPlanRow)
 
 -- the rows of an accepted plan
 pub record PlanRows (plans : List PlanRow) : Type 0 where
@@ -78,12 +83,13 @@ rows-pairwise R rows n f (p ∷ ps) a b = (one ps (a .1) (b .0), rows-pairwise R
 
 -- ── The rows at the places of a table, so far as they go ──
 
-module _ (rows : List ObjectRow) (n : ℕ) (ok : checksFrom [] 0 [] (take n rows) ≡ Accepted) where
+module _ (rows : List ObjectRow) (n : ℕ) (ok : checksFrom 0 [] (take n rows) ≡ Accepted) where
   inside : (p : ℕ) → p < n → p < length rows → p < length (take n rows)
   inside p h l = simp length-take (omega arith)
 
   ranged-at : (p : ℕ) → p < n → p < length rows → Ranged (rowAt rows p)
-  ranged-at p h l = rw (getD-take n rows p noRow h) at (every-at Ranged noRow (take n rows) (all-ranged [] 0 [] (take n rows) ok) p (inside p h l))
+  ranged-at p h l =
+      rw (getD-take n rows p noRow h) at (every-at Ranged noRow (take n rows) (all-ranged 0 [] (take n rows) ok) p (inside p h l))
 
   apart-at : (p q : ℕ) → p < q → q < n → q < length rows → rowAt rows p .id ≢ rowAt rows q .id
   apart-at p q d h l =
@@ -112,28 +118,42 @@ module _ (rows : List ObjectRow) (n : ℕ) (ok : checksFrom [] 0 [] (take n rows
 
 -- ── The plan, one row after the other ──
 
-as-length : {ahead : List PlanRow} {rs : List ObjectRow} {ps : List PlanRow} → PlannedAs ahead rs ps → length ps ≡ length rs
-as-length done = refl
-as-length (next t d b) = ap suc (as-length b)
+-- the rows that they are the plan of
+pub as-rows-of : (rs : List ObjectRow) {ahead ps : List PlanRow} → PlannedAs (length rs) ahead rs ps → map unplanned ps ≡ rs
+as-rows-of [] done = refl
+as-rows-of (r ∷ rs) (next t d p) = ap (λ (l : List ObjectRow). r ∷ l) (as-rows-of rs p)
 
--- each of them is planned behind those ahead of it
-as-rows : {ahead : List PlanRow} {rs : List ObjectRow} {ps : List PlanRow} → PlannedAs ahead rs ps → Every (λ r. 2 ≤ r .validity → Ranged r) rs
-    → (i : ℕ) → i < length ps → PlannedRow (ahead ++ take i ps) (getD ps i noPlanRow)
-as-rows done a i h = absurd (omega arith)
-as-rows (next {ahead = ahead} {r = r} t k b) a zero h =
+ranged-hold : (r : ObjectRow) → Ranged r → holdOk (r .cost) (r .hold) ≡ true
+ranged-hold r g =
+    rw (le-leb 1 (r .hold) (g .hold-from), le-leb (r .hold) (r .cost) (g .hold-cost), le-leb (r .hold) 65536 (g .hold-to))
+
+-- each of them is planned between those ahead of it and those behind it
+as-rows : (rs : List ObjectRow) {ahead ps : List PlanRow} → PlannedAs (length rs) ahead rs ps → Every (λ r. 2 ≤ r .validity → Ranged r) rs
+    → (i : ℕ) → i < length ps → PlannedRow (ahead ++ take i ps) (drop (suc i) ps) (getD ps i noPlanRow)
+as-rows [] done a i h = absurd (omega arith)
+as-rows (r ∷ rs) (next {ahead = ahead} {plans = ps} t k b) a zero h =
     let g = a .0 (omega (arith, k .one, k .half)) in
-    rw (append-nil ahead) (record { cost-pos = g .cost-from; balances = sym (k .balances); half = k .half; period-is = refl; small = g .validity-to })
-as-rows (next {ahead = ahead} {r = r} {plans = ps} t k b) a (suc i) h =
-    rw (append-assoc ahead (planRow r t ∷ []) (take i ps)) at (as-rows b (a .1) i (omega arith))
+    let balances : needOf ahead (ownOf r (map unplanned ps)) t ≡ t = rw (as-rows-of rs b) (sym (k .balances)) in
+    rw (append-nil ahead) (record {
+      cost-pos = g .cost-from;
+      hold-ok = ranged-hold r g;
+      balances = balances;
+      half = k .half;
+      period-is = refl;
+      small = g .validity-to;
+    })
+as-rows (r ∷ rs) (next {ahead = ahead} {plans = ps} t k b) a (suc i) h =
+    rw (append-assoc ahead (planRow r t ∷ []) (take i ps)) at (as-rows rs b (a .1) i (omega arith))
 
 -- and their ids differ
-other-ids : {ahead : List PlanRow} {rs : List ObjectRow} {ps : List PlanRow} (x : ObjectRow) → 2 ≤ x .validity → PlannedAs ahead rs ps
-    → Every (λ y. 2 ≤ x .validity → 2 ≤ y .validity → x .id ≢ y .id) rs → notIn (x .id) (map (λ (p : PlanRow). p .id) ps) ≡ true
+other-ids : {k : ℕ} {ahead : List PlanRow} {rs : List ObjectRow} {ps : List PlanRow} (x : ObjectRow) → 2 ≤ x .validity
+    → PlannedAs k ahead rs ps → Every (λ y. 2 ≤ x .validity → 2 ≤ y .validity → x .id ≢ y .id) rs
+    → notIn (x .id) (map (λ (p : PlanRow). p .id) ps) ≡ true
 unfolding notIn
 other-ids x v done a = refl
 other-ids x v (next {r = r} t k b) a = rw (ne-eqb (x .id) (r .id) (a .0 v (omega (arith, k .one, k .half)))) (other-ids x v b (a .1))
 
-as-ids : {ahead : List PlanRow} {rs : List ObjectRow} {ps : List PlanRow} → PlannedAs ahead rs ps
+as-ids : {k : ℕ} {ahead : List PlanRow} {rs : List ObjectRow} {ps : List PlanRow} → PlannedAs k ahead rs ps
     → Pairwise (λ x y. 2 ≤ x .validity → 2 ≤ y .validity → x .id ≢ y .id) rs → distinct (map (λ (p : PlanRow). p .id) ps) ≡ true
 unfolding distinct
 as-ids done a = refl
@@ -150,13 +170,15 @@ pub plan-rows : (table : Table) → planOf table .verdict ≡ Accepted → PlanR
 plan-rows table e =
     let rows = table .rows in
     let n = table .count in
-    let c = both-accept (countVerdict n) (checksFrom [] 0 [] (rowsIn table)) (formed (tableVerdict table) (planFrom [] (inOrder rows n)) e) in
+    let well-formed = formed (tableVerdict table) (planFrom [] (inOrder rows n)) e in
+    let c = both-accept (countVerdict n) (checksFrom 0 [] (rowsIn table)) well-formed in
     let count = count-said n (c .0) in
     let b = planned-as table e in
-    let l : length (plannedRows (planOf table .plan)) ≡ n = as-length b ∙ in-order-length rows n in
+    let l : length (plannedRows (planOf table .plan)) ≡ n =
+    sym (length-map (plannedRows (planOf table .plan)) unplanned) ∙ (ap length (as-rows-of (inOrder rows n) b) ∙ in-order-length rows n) in
     record {
       count-pos = omega arith;
       count-le = omega arith;
       ids-differ = as-ids b (ordered-apart rows n (c .1));
-      rows = as-rows b (ordered-ranged rows n (c .1));
+      rows = as-rows (inOrder rows n) b (ordered-ranged rows n (c .1));
     }

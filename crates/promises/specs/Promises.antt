@@ -2,13 +2,13 @@
 -- Assumes nothing but what each statement says. Promises/Words.antt tells where each word is defined: those of document 01 in crate
 -- `rules`, the history, its run in true time, in crate `theory`; `runAfter run stolen t` is the run of the rules after t slots.
 pub mod Words
-use Prim.Native.Nat.{ℕ, _+_, _^_, _≤_, _<_}
+use Prim.Native.Nat.{ℕ, suc, _+_, _^_, _≤_, _<_}
 use mathlib.Core.Path.{_≡_}
 use mathlib.Core.Logic.{_↔_, _⊎_}
 use mathlib.Core.Bool.{Bool, true, false}
 use mathlib.Core.List.{List, [], map}
 use mathlib.Core.Option.{some}
-use lib.ListN.{length, take, getD, getElem?}
+use lib.ListN.{length, take, drop, getD, getElem?}
 use Words.*
 use Rattle.rules.specs.declared.Reading.the-variants as reading
 
@@ -18,10 +18,11 @@ pub record OfTable (table : Table) : Type 0 where
   -- THE ORDER. The places in use, sorted, each once and no other; no other list of places is so, where the ids differ.
   pub order : Ordered (table .rows) (table .count) (placesIn table)
   pub only-order : IdsDiffer table → (ps : List ℕ) → Ordered (table .rows) (table .count) ps → ps ≡ placesIn table
-  -- THE DEADLINE is the smallest number of slots that covers the object's own cost and all releases ahead of it, at most half the validity;
-  -- the period is validity minus deadline.
+  -- THE DEADLINE is the smallest number of slots that covers the object's own cost, the longest hold behind it and all releases ahead of
+  -- it, at most half the validity; the period is validity minus deadline.
   pub deadline : planOf table .verdict ≡ Accepted → (i : ℕ) → i < table .count
-      → PlannedBehind (take i (plansIn table)) (getD (ordered table) i noRow) (getD (plansIn table) i noPlanRow)
+      → PlannedBetween (take i (plansIn table)) (getD (ordered table) i noRow) (drop (suc i) (ordered table))
+      (getD (plansIn table) i noPlanRow)
   -- REFUSED EXACTLY. A well-formed table is planned or refused with 10, and 10 is told at a place exactly if the table is well-formed and
   -- the object there is the first, in priority order, without a deadline within half its validity.
   pub planned-or-10 : tableVerdict table ≡ Accepted
@@ -108,11 +109,17 @@ pub record Promises : Type 0 where
   pub reads-13 : (run : Run) (id : ℕ) → (readingTold (readingOf run id) .refusal ≡ 13 atPlace 0) ↔ (acceptable run ≡ false)
   pub reads-14 : (run : Run) (id : ℕ)
       → (readingTold (readingOf run id) .refusal ≡ 14 atPlace 0) ↔ ((acceptable run ≡ true) × NoneHas id (usedRows run))
-  -- SAME AHEAD, SAME ANSWER. Two tables that agree on the first k objects, started with equal clocks, stolen slots and first releases of
-  -- these, give each of these the same row at every instant, so the same starts, finishes and skips, and the same readings.
+  -- H OF 1 EVERYWHERE GIVES 01'S NUMBERS. The plan is document 01's, whose balance is the object's own cost plus the sum; and step 2 is
+  -- document 01's, "the first object with work left does one unit".
+  pub plan-01 : (table : Table) → HoldsOne (ordered table) → planOf table ≡ plan01 table
+  pub step-01 : (stolen : Bool) (rows : List RunRow) → Every (λ row. row .planned .hold ≡ 1) rows
+      → stepTwo stolen rows ≡ step01 stolen rows
+  -- SAME AHEAD, SAME ANSWER. Two tables that agree on the first k objects, where all objects behind have h of 1 in both, started with
+  -- equal clocks, stolen slots and first releases of the first k, give each of these the same row at every instant, so the same deadline,
+  -- period, starts, finishes and skips, and the same readings.
   pub same-ahead : (a b : Table) (clock : ℕ) (f g : List ℕ) → startOf a clock f .verdict ≡ Accepted → startOf b clock g .verdict ≡ Accepted
-      → clock < 2 ^ 32 → (k : ℕ) → take k (ordered a) ≡ take k (ordered b) → take k f ≡ take k g
-      → (i : ℕ) (o : RunObject) → i < k → getElem? (objectsIn a f) i ≡ some o → (stolen : ℕ → Bool) (t : ℕ)
+      → clock < 2 ^ 32 → (k : ℕ) → take k (ordered a) ≡ take k (ordered b) → HoldsOne (drop k (ordered a)) → HoldsOne (drop k (ordered b))
+      → take k f ≡ take k g → (i : ℕ) (o : RunObject) → i < k → getElem? (objectsIn a f) i ≡ some o → (stolen : ℕ → Bool) (t : ℕ)
       → (runRow (runOf a clock f stolen t) i ≡ runRow (runOf b clock g stolen t) i)
       × (readingOf (runOf a clock f stolen t) (o .plan .id) ≡ readingOf (runOf b clock g stolen t) (o .plan .id))
   -- IN TIME. What demand 3 says, in true time and for any number of planned objects, from any acceptable states and for any actual works.

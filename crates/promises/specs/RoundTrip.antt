@@ -2,22 +2,22 @@
 -- has no unread bytes, written again, gives the same bytes.
 -- Assumes nothing but what each statement says. Bytes are lists of numbers below 256.
 use Prim.Native.Nat.{ℕ, zero, suc, _+_, _-_, _*_, _/_, _%_, _≤_, _<_}
-use mathlib.Core.Path.{_≡_, refl, sym, ap, ap₂, _∙_, subst}
-use mathlib.Core.List.{List, [], _∷_, _++_, map, append-assoc, append-nil}
-use native.Mathlib.Decide.{decLt}
+use mathlib.Core.Path.{_≡_, refl, sym, ap, ap₂, _∙_}
+use mathlib.Core.List.{List, [], _∷_, _++_, append-assoc, append-nil}
 use native.Mathlib.Omega.{arith}
 use native.Mathlib.Numerals.{add-one}
 use borrow.Author.Tests.{le-leb}
-use lib.ListN.{length, take, drop, getD, length-append, length-drop, take-append-drop, List·getD-eq-default}
+use lib.ListN.{length, take, drop, getD, length-append, length-drop, take-append-drop}
 use lib.Seq.{take-append-seam, getD-append-add, drop-drop, take-add, drop-cons, take-all, length-take-le}
 use Rattle.rules.specs.declared.ObjectRow.{ObjectRow}
 use Rattle.rules.specs.declared.Table.{Table}
 use Rattle.rules.specs.declared.Verdict.the-variants.{Accepted}
-use Rattle.rules.specs.StoredTable.{tableOf, tableSize, rowsIn, le16, le32, distanceOf, countOf, markOf, tableMark, rowOf, spareOf, recordsOf, recordsStart, storedRows, storedSpares, countVerdict, checksFrom, tableVerdict, trailerVerdict, readVerdict, readOf}
+use Rattle.rules.specs.StoredTable.{tableOf, tableSize, rowsIn, le16, le32, distanceOf, countOf, markOf, tableMark, rowOf, recordsOf}
+use Rattle.rules.specs.StoredTable.{recordsStart, storedRows, countVerdict, checksFrom, tableVerdict, trailerVerdict, readVerdict, readOf}
 use Rattle.rules.specs.Writing.{bytes16, bytes32, recordBytes, recordsBytes, trailerBytes, tableBytes, roomVerdict, writeVerdict, writtenOf, bufferAfter}
 use Rattle.rules.proofs.Lists.{Every, every-at}
-use Rattle.rules.proofs.Checks.{both-accept, count-in, count-said, same-spares, first-passed}
-use Rattle.rules.proofs.Bytes.{records-length, table-length, records-behind, records-count, records-at}
+use Rattle.rules.proofs.Checks.{both-accept, count-in, count-said, Ranged, all-ranged}
+use Rattle.rules.proofs.Bytes.{records-length, table-length, records-behind, records-count}
 use Rattle.rules.proofs.Trailer.{in-order, Readable, readable}
 
 -- ── Numbers behind other bytes ──
@@ -34,48 +34,41 @@ module _ (xs ys : List ℕ) (at i : ℕ) (place : at ≡ length xs + i) where
 
 -- ── Written, then read ──
 
--- a record reads as its row, with a spare field of zero
-record-back : (xs : List ℕ) (r : ObjectRow) (ys : List ℕ) (at : ℕ) → at ≡ length xs + 0 → rowOf (xs ++ (recordBytes r ++ ys)) at ≡ r
-record-back xs r ys at e =
+-- a record reads as its row, its spare field as the hold
+record-back : (xs : List ℕ) (r : ObjectRow) (ys : List ℕ) (at : ℕ) → Ranged r → at ≡ length xs + 0
+    → rowOf (xs ++ (recordBytes r ++ ys)) at ≡ r
+record-back xs r ys at g e =
     let s = recordBytes r ++ ys in
+    let h : at + 2 ≡ length xs + 2 = omega arith in
     let c : at + 4 ≡ length xs + 4 = omega arith in
     let v : at + 8 ≡ length xs + 8 = omega arith in
     let i : le16 s 0 ≡ r .id = omega arith in
     let j : le32 s 4 ≡ r .cost = omega arith in
     let k : le32 s 8 ≡ r .validity = omega arith in
-    rw (le16-behind xs s at 0 e, le32-behind xs s (at + 4) 4 c, le32-behind xs s (at + 8) 8 v, i, j, k)
-
-spare-back : (xs : List ℕ) (r : ObjectRow) (ys : List ℕ) (at : ℕ) → at ≡ length xs + 0 → spareOf (xs ++ (recordBytes r ++ ys)) at ≡ 0
-spare-back xs r ys at e = let p : at + 2 ≡ length xs + 2 = omega arith in rw (le16-behind xs (recordBytes r ++ ys) (at + 2) 2 p)
+    let l : le16 s 2 + 1 ≡ r .hold = omega (arith, g .hold-from) in
+    rw (le16-behind xs s at 0 e, le32-behind xs s (at + 4) 4 c, le32-behind xs s (at + 8) 8 v, le16-behind xs s (at + 2) 2 h, i, j, k, l)
 
 -- records from the first on
-records-cons : {A : Type 0} (f : List ℕ → ℕ → A) (s : List ℕ) (at n : ℕ) → recordsOf f s at (suc n) ≡ f s at ∷ recordsOf f s (at + 12) n
-records-cons f s at zero = let e : at + 0 ≡ at = omega arith in rw e
-records-cons f s at (suc n) =
+records-cons : (s : List ℕ) (at n : ℕ) → recordsOf rowOf s at (suc n) ≡ rowOf s at ∷ recordsOf rowOf s (at + 12) n
+records-cons s at zero = let e : at + 0 ≡ at = omega arith in rw e
+records-cons s at (suc n) =
     let e : at + 12 * suc n ≡ at + 12 + 12 * n = omega arith in
-    rw (records-cons f s at n, e)
+    rw (records-cons s at n, e)
 
--- what each record reads as, all of them read as
-all-back : {A : Type 0} (f : List ℕ → ℕ → A) (g : ObjectRow → A) → ((xs : List ℕ) (r : ObjectRow) (ys : List ℕ) (at : ℕ) → at ≡ length xs + 0 → f (xs ++ (recordBytes r ++ ys)) at ≡ g r)
-    → (xs : List ℕ) (rows : List ObjectRow) (ys : List ℕ) (at : ℕ) → at ≡ length xs + 0 → recordsOf f (xs ++ (recordsBytes rows ++ ys)) at (length rows) ≡ map g rows
-all-back f g h xs [] ys at e = refl
-all-back {A} f g h xs (r ∷ rs) ys at e =
+-- all of them
+all-back : (xs : List ℕ) (rows : List ObjectRow) (ys : List ℕ) (at : ℕ) → Every Ranged rows → at ≡ length xs + 0
+    → recordsOf rowOf (xs ++ (recordsBytes rows ++ ys)) at (length rows) ≡ rows
+all-back xs [] ys at g e = refl
+all-back xs (r ∷ rs) ys at g e =
     let s = xs ++ (recordsBytes (r ∷ rs) ++ ys) in
-    let a : s ≡ xs ++ (recordBytes r ++ (recordsBytes rs ++ ys)) = ap (λ (l : List ℕ). xs ++ l) (append-assoc (recordBytes r) (recordsBytes rs) ys) in
+    let a : s ≡ xs ++ (recordBytes r ++ (recordsBytes rs ++ ys)) =
+    ap (λ (l : List ℕ). xs ++ l) (append-assoc (recordBytes r) (recordsBytes rs) ys) in
     let b : s ≡ (xs ++ recordBytes r) ++ (recordsBytes rs ++ ys) = a ∙ sym (append-assoc xs (recordBytes r) (recordsBytes rs ++ ys)) in
     let n : at + 12 ≡ length (xs ++ recordBytes r) + 0 = simp length-append (omega arith) in
-    let one : f s at ≡ g r = ap (λ (l : List ℕ). f l at) a ∙ h xs r (recordsBytes rs ++ ys) at e in
-    let others : recordsOf f s (at + 12) (length rs) ≡ map g rs = ap (λ (l : List ℕ). recordsOf f l (at + 12) (length rs)) b ∙ all-back f g h (xs ++ recordBytes r) rs ys (at + 12) n in
-    records-cons f s at (length rs) ∙ ap₂ {C = List A} (λ (x : A) (l : List A). x ∷ l) one others
-
-same-rows : (rows : List ObjectRow) → map (λ (r : ObjectRow). r) rows ≡ rows
-same-rows [] = refl
-same-rows (r ∷ rs) = ap (λ (l : List ObjectRow). r ∷ l) (same-rows rs)
-
-all-zero : (rows : List ObjectRow) (k : ℕ) → _≡_ {A = ℕ} (getD (map (λ (r : ObjectRow). 0) rows) k 0) 0
-all-zero [] k = refl
-all-zero (r ∷ rs) zero = refl
-all-zero (r ∷ rs) (suc k) = all-zero rs k
+    let one : rowOf s at ≡ r = ap (λ (l : List ℕ). rowOf l at) a ∙ record-back xs r (recordsBytes rs ++ ys) at (g .0) e in
+    let others : recordsOf rowOf s (at + 12) (length rs) ≡ rs =
+    ap (λ (l : List ℕ). recordsOf rowOf l (at + 12) (length rs)) b ∙ all-back (xs ++ recordBytes r) rs ys (at + 12) (g .1) n in
+    records-cons s at (length rs) ∙ ap₂ {C = List ObjectRow} (λ (x : ObjectRow) (l : List ObjectRow). x ∷ l) one others
 
 module _ (rows : List ObjectRow) (few : length rows ≤ 64) where
   long : length (tableBytes rows) ≡ 8 + 12 * length rows
@@ -96,15 +89,17 @@ module _ (rows : List ObjectRow) (few : length rows ≤ 64) where
   start-back : recordsStart (tableBytes rows) ≡ 0 + 0
   start-back = omega (arith, long, distance-back)
 
-  rows-back : storedRows (tableBytes rows) ≡ rows
-  rows-back = rw count-back (all-back rowOf (λ r. r) record-back [] rows (trailerBytes (length rows)) (recordsStart (tableBytes rows)) start-back ∙ same-rows rows)
+  rows-back : Every Ranged rows → storedRows (tableBytes rows) ≡ rows
+  rows-back g = rw count-back (all-back [] rows (trailerBytes (length rows)) (recordsStart (tableBytes rows)) g start-back)
 
-  pub reads-back : 1 ≤ length rows → checksFrom [] 0 [] rows ≡ Accepted → readOf (tableBytes rows) ≡ record { verdict = Accepted; table = tableOf rows }
+  pub reads-back : 1 ≤ length rows → checksFrom 0 [] rows ≡ Accepted
+      → readOf (tableBytes rows) ≡ record { verdict = Accepted; table = tableOf rows }
   reads-back some good =
-      let t : trailerVerdict (tableBytes rows) ≡ Accepted = in-order (tableBytes rows) (omega (arith, long)) (omega (arith, long)) mark-back (omega (arith, count-back)) (omega (arith, count-back)) (omega (arith, count-back, distance-back)) (omega (arith, long, distance-back)) in
-      let spares : storedSpares (tableBytes rows) ≡ map (λ (r : ObjectRow). 0) rows = rw count-back (all-back spareOf (λ r. 0) spare-back [] rows (trailerBytes (length rows)) (recordsStart (tableBytes rows)) start-back) in
-      let checks : checksFrom (storedSpares (tableBytes rows)) 0 [] (storedRows (tableBytes rows)) ≡ Accepted = rw (spares, rows-back) (same-spares (map (λ (r : ObjectRow). 0) rows) [] 0 [] rows (λ k. all-zero rows k) ∙ good) in
-      rw (t, checks, rows-back)
+      let back = rows-back (all-ranged 0 [] rows good) in
+      let t : trailerVerdict (tableBytes rows) ≡ Accepted =
+      in-order (tableBytes rows) (omega (arith, long)) (omega (arith, long)) mark-back (omega (arith, count-back))
+      (omega (arith, count-back)) (omega (arith, count-back, distance-back)) (omega (arith, long, distance-back)) in
+      rw (t, back, good)
 
 -- ── Read, then written ──
 
@@ -135,33 +130,27 @@ module _ (s : List ℕ) (bytes : Every (λ b. b < 256) s) where
       let high : le32 s at / 65536 ≡ le16 s (at + 2) = omega (arith, low16 at (omega arith)) in
       ap₂ (λ (x y : ℕ). bytes16 x ++ bytes16 y) low high ∙ (joined (two-bytes at (omega arith)) (two-bytes (at + 2) (omega arith)) ∙ parts at 2 2)
 
-  a-record : (at : ℕ) → at + 12 ≤ length s → spareOf s at ≡ 0 → recordBytes (rowOf s at) ≡ take 12 (drop at s)
-  a-record at h z =
-      let spare : bytes16 0 ≡ take 2 (drop (at + 2) s) = rw z at (two-bytes (at + 2) (omega arith)) in
+  a-record : (at : ℕ) → at + 12 ≤ length s → recordBytes (rowOf s at) ≡ take 12 (drop at s)
+  a-record at h =
+      let less : le16 s (at + 2) + 1 - 1 ≡ le16 s (at + 2) = omega arith in
+      let spare : bytes16 (le16 s (at + 2) + 1 - 1) ≡ take 2 (drop (at + 2) s) = ap bytes16 less ∙ two-bytes (at + 2) (omega arith) in
       let p : at + 2 + 2 ≡ at + 4 = omega arith in
       let q : at + 4 + 4 ≡ at + 8 = omega arith in
       let numbers = joined (four-bytes (at + 4) (omega arith)) (four-bytes (at + 8) (omega arith)) ∙ rw q at (parts (at + 4) 4 4) in
       let behind = joined spare numbers ∙ rw p at (parts (at + 2) 2 8) in
       joined (two-bytes at (omega arith)) behind ∙ parts at 2 10
 
-  the-records : (at n : ℕ) → at + 12 * n ≤ length s → ((i : ℕ) → i < n → spareOf s (at + 12 * i) ≡ 0) → recordsBytes (recordsOf rowOf s at n) ≡ take (12 * n) (drop at s)
-  the-records at zero h z = refl
-  the-records at (suc n) h z =
+  the-records : (at n : ℕ) → at + 12 * n ≤ length s → recordsBytes (recordsOf rowOf s at n) ≡ take (12 * n) (drop at s)
+  the-records at zero h = refl
+  the-records at (suc n) h =
       let e : 12 * n + 12 ≡ 12 * suc n = omega arith in
-      let last = a-record (at + 12 * n) (omega arith) (z n (omega arith)) in
-      rw (records-behind (recordsOf rowOf s at n) (rowOf s (at + 12 * n) ∷ []), the-records at n (omega arith) (λ i l. z i (omega arith)), append-nil, last, parts at (12 * n) 12, e)
-
-  -- no record of a table that reads has its spare field used
-  spares-zero : (spares : List ℕ) (at : ℕ) (seen rs : List ObjectRow) → checksFrom spares at seen rs ≡ Accepted → (i : ℕ) → i < length rs → getD spares (at + i) 0 ≡ 0
-  spares-zero spares at seen [] e i h = absurd (omega arith)
-  spares-zero spares at seen (r ∷ rs) e zero h = let z : at + 0 ≡ at = omega arith in rw z (first-passed spares at seen r rs e .spare)
-  spares-zero spares at seen (r ∷ rs) e (suc i) h =
-      let z : at + suc i ≡ at + 1 + i = omega arith in
-      rw z (spares-zero spares (at + 1) (seen ++ r ∷ []) rs (first-passed spares at seen r rs e .others) i (omega arith))
+      let last = a-record (at + 12 * n) (omega arith) in
+      let together = records-behind (recordsOf rowOf s at n) (rowOf s (at + 12 * n) ∷ []) in
+      rw (together, the-records at n (omega arith), append-nil, last, parts at (12 * n) 12, e)
 
   module _ (reads : readVerdict s ≡ Accepted) (no-gap : length s ≡ 8 + 12 * countOf s) where
-    checked : (trailerVerdict s ≡ Accepted) × (checksFrom (storedSpares s) 0 [] (storedRows s) ≡ Accepted)
-    checked = both-accept (trailerVerdict s) (checksFrom (storedSpares s) 0 [] (storedRows s)) reads
+    checked : (trailerVerdict s ≡ Accepted) × (checksFrom 0 [] (storedRows s) ≡ Accepted)
+    checked = both-accept (trailerVerdict s) (checksFrom 0 [] (storedRows s)) reads
 
     known : Readable s
     known = readable s (checked .0)
@@ -172,30 +161,20 @@ module _ (s : List ℕ) (bytes : Every (λ b. b < 256) s) where
     start-zero : recordsStart s ≡ 0
     start-zero = omega (arith, no-gap, known .room, known .within)
 
-    none-used : (i : ℕ) → getD (storedSpares s) i 0 ≡ 0
-    none-used i = by-order (decLt i (countOf s))
-      where
-        by-order : Dec (i < countOf s) → getD (storedSpares s) i 0 ≡ 0
-        by-order (yes h) = let z : 0 + i ≡ i = omega arith in rw z at (spares-zero (storedSpares s) 0 [] (storedRows s) (checked .1) i (omega (arith, count-of)))
-        by-order (no h) = List·getD-eq-default (storedSpares s) 0 (omega (arith, records-count spareOf s (recordsStart s) (countOf s)))
-
-    spare-zero : (i : ℕ) → i < countOf s → spareOf s (0 + 12 * i) ≡ 0
-    spare-zero i h = subst (λ (k : ℕ). spareOf s (k + 12 * i) ≡ 0) start-zero (sym (records-at spareOf s (recordsStart s) (countOf s) i 0 h) ∙ none-used i)
-
     rows-in : rowsIn (tableOf (storedRows s)) ≡ storedRows s
     rows-in = take-append-seam (storedRows s) _
 
     well-formed : tableVerdict (tableOf (storedRows s)) ≡ Accepted
     well-formed =
-        let rows : checksFrom [] 0 [] (storedRows s) ≡ Accepted = sym (same-spares (storedSpares s) [] 0 [] (storedRows s) none-used) ∙ checked .1 in
-        rw (count-in (length (storedRows s)) (omega (arith, count-of, known .some)) (omega (arith, count-of, known .few)), rows-in) rows
+        let some = count-in (length (storedRows s)) (omega (arith, count-of, known .some)) (omega (arith, count-of, known .few)) in
+        rw (some, rows-in) (checked .1)
 
     -- the bytes of the rows are the bytes
     pub same-bytes : tableBytes (storedRows s) ≡ s
     same-bytes =
         let n = countOf s in
         let d : 8 + 12 * n ≡ distanceOf s = omega (arith, no-gap, known .room, known .within) in
-        let a : recordsBytes (storedRows s) ≡ take (12 * n) s = rw start-zero (the-records 0 n (omega arith) spare-zero) in
+        let a : recordsBytes (storedRows s) ≡ take (12 * n) s = rw start-zero (the-records 0 n (omega arith)) in
         let p : length s - 8 ≡ 12 * n = omega (arith, no-gap) in
         let q : length s - 4 ≡ 12 * n + 4 = omega (arith, no-gap) in
         let r : length s - 2 ≡ 12 * n + 6 = omega (arith, no-gap) in
@@ -215,7 +194,7 @@ pub written-reads-back : (table : Table) (buffer : List ℕ) → length (table .
     → readOf (take (writtenOf table (length buffer) .size) (bufferAfter table buffer)) ≡ record { verdict = Accepted; table = tableOf (rowsIn table) }
 written-reads-back table buffer long good =
     let checks = both-accept (tableVerdict table) _ good .0 in
-    let rows = both-accept (countVerdict (table .count)) (checksFrom [] 0 [] (rowsIn table)) checks in
+    let rows = both-accept (countVerdict (table .count)) (checksFrom 0 [] (rowsIn table)) checks in
     let count = count-said (table .count) (rows .0) in
     let n : length (rowsIn table) ≡ table .count = length-take-le (table .count) (table .rows) (omega arith) in
     let s : take (writtenOf table (length buffer) .size) (bufferAfter table buffer) ≡ tableBytes (rowsIn table) = rw (writtenOf, bufferAfter, good) (take-append-seam (tableBytes (rowsIn table)) _) in

@@ -5,24 +5,23 @@ use mathlib.Core.Path.{_≡_, refl, ap, _∙_}
 use mathlib.Core.Bool.{Bool, true, false}
 use mathlib.Core.List.{List, [], _∷_}
 use lib.ListN.{length, drop, length-map}
-use lib.Dec.{eqb}
 use lib.Seq.{length-take-le, take-at}
 use Rattle.rules.specs.declared.RunRow.{RunRow}
 use Rattle.rules.specs.declared.Run.{Run}
-use Rattle.rules.specs.RunState.{usedRows}
-use Rattle.rules.specs.Run.{tick, releasedOf, stepOne, servedOf, serveFirst, stepTwo, agedOf, slotRows, slotOf}
+use Rattle.rules.specs.RunState.{inHold, any, usedRows}
+use Rattle.rules.specs.Run.{tick, releasedOf, stepOne, servedOf, serveFirst, mayWork, stepTwo, agedOf, slotRows, slotOf}
 use Rattle.theory.specs.Cases.{cond-holds}
 
-first-length : (rows : List RunRow) → length (serveFirst rows) ≡ length rows
+first-length : (p : RunRow → Bool) (rows : List RunRow) → length (serveFirst p rows) ≡ length rows
 unfolding serveFirst
-first-length [] = refl
-first-length (r ∷ rs) =
-    cond-holds (λ l. length l ≡ suc (length rs)) (eqb (r .left) 0) (r ∷ serveFirst rs) (servedOf r ∷ rs)
-    (λ z. ap suc (first-length rs)) (λ z. refl)
+first-length p [] = refl
+first-length p (r ∷ rs) =
+    cond-holds (λ l. length l ≡ suc (length rs)) (p r) (servedOf r ∷ rs) (r ∷ serveFirst p rs)
+    (λ z. refl) (λ z. ap suc (first-length p rs))
 
 two-length : (stolen : Bool) (rows : List RunRow) → length (stepTwo stolen rows) ≡ length rows
 two-length true rows = refl
-two-length false rows = first-length rows
+two-length false rows = first-length (mayWork (any inHold rows)) rows
 
 slot-length : (clock : ℕ) (stolen : Bool) (rows : List RunRow) → length (slotRows clock stolen rows) ≡ length rows
 slot-length clock stolen rows =

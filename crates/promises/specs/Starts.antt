@@ -22,7 +22,8 @@ use Rattle.rules.specs.RunState.{rowNone, every, acceptable}
 use Rattle.rules.specs.Run.{noRunRow, startRow, startRows, startedRun, firstsFrom, firstsVerdict, started, startOf}
 use Rattle.rules.proofs.Checks.{both-accept, test-passed, refused-not}
 use Rattle.rules.proofs.Lists.{Every}
-use Rattle.theory.specs.Model.{at, Course, history, state, Unstolen}
+use Rattle.theory.specs.Model.{Object, at, Course, history, state, Unstolen}
+use Rattle.theory.specs.Plain.{Whole}
 use Rattle.theory.specs.Bounds.{sampled-before}
 use Rattle.theory.specs.Releases.{ReleaseOf, Sampled, samples}
 use Rattle.theory.specs.Start.{start, starts, start-at, start-objects, start-acceptable}
@@ -68,6 +69,14 @@ spare-low (suc n) =
     } in
     (low, spare-low n)
 
+-- nothing is in hand
+start-whole : (clock : ℕ) (os : List Object) (firsts : ℕ → ℕ) (i : ℕ) → i < length (starts clock os firsts)
+    → Whole (at (starts clock os firsts) i)
+unfolding start starts
+start-whole clock [] firsts i l = absurd (omega arith)
+start-whole clock (o ∷ os) firsts zero l = λ h. absurd (omega arith)
+start-whole clock (o ∷ os) firsts (suc i) l = start-whole clock os (λ j. firsts (suc j)) i (omega arith)
+
 -- what an accepted start comes to
 pub record StartedWith (table : Table) (clock : ℕ) (firsts : List ℕ) (ps : List PlanRow) : Type 0 where
   pub run-is : startOf table clock firsts .run ≡ encodeRun ps (spare ps) clock (startStates clock ps firsts)
@@ -96,10 +105,11 @@ started-with table clock firsts e low =
         count-pos = good .count-pos;
         size = simp length-replicate (omega (arith, good .count-le));
         ids-differ = good .ids-differ;
-        sound = λ i h. planned-sound _ _ (good .rows i h);
+        sound = λ i h. planned-sound (good .rows i h);
         none-beyond = spare-none (64 - length ps);
         low-beyond = spare-low (64 - length ps);
         objects-are = start-objects clock (map objectOf ps) (λ i. getD firsts i 0);
+        whole = start-whole clock (map objectOf ps) (λ i. getD firsts i 0);
         acceptable-then = start-acceptable clock (map objectOf ps) (λ i. getD firsts i 0)
             (λ i h.
             let l : i < length ps = rw (length-map ps objectOf) at h in

@@ -3,23 +3,29 @@
 use Prim.Native.Nat.{ℕ, suc, _+_, _-_, _%_, _^_, _≤_, _<_, min}
 use mathlib.Core.Path.{_≡_, refl, ap, sym, _∙_}
 use mathlib.Core.Logic.{_≢_}
-use mathlib.Core.Bool.{Bool, true, false, cond, not}
+use mathlib.Core.Bool.{Bool, true, false, cond, _||_}
 use mathlib.Core.List.{List, [], _∷_}
 use mathlib.Core.Option.{Option, none, some}
 use native.Mathlib.Decide.{decLe}
 use native.Mathlib.Omega.{arith}
-use lib.Dec.{eqb, leb, ltb}
+use lib.Dec.{leb, ltb}
 use lib.ListN.{length, getD}
-use borrow.Author.Tests.{eq-eqb, ne-eqb, eqb-false, lt-ltb, le-ltb, le-leb, lt-leb}
+use borrow.Author.Tests.{eq-eqb, ne-eqb, lt-ltb, le-ltb, le-leb, lt-leb}
 use Rattle.rules.specs.declared.PlanRow.{PlanRow}
 use Rattle.rules.specs.declared.RunRow.{RunRow}
 use Rattle.rules.specs.declared.Stored.the-variants.{Held, Lapsed}
 use Rattle.rules.specs.Deadlines.{noPlanRow}
 use Rattle.rules.specs.RunState.{ageOf}
-use Rattle.rules.specs.Run.{releasedOf, stepOne, storedAs, servedOf, serveFirst, stepTwo, agedStored, agedHand, agedOf, stepThree, slotRows}
-use Rattle.theory.specs.Model.{Object, State, at, begun, skipped, release, releases, finished, oneLess, worked, hasWork, workFirst}
-use Rattle.theory.specs.Model.{Bounded, Past}
+use Rattle.rules.specs.RunState as rules
+use Rattle.rules.specs.Run.{releasedOf, stepOne, storedAs, servedOf, serveFirst, mayWork, agedStored, agedHand, agedOf, stepThree}
+use Rattle.rules.specs.Run.{slotRows}
+use Rattle.rules.specs.Run as run
+use Rattle.rules.proofs.Holds.{released-hold}
+use Rattle.theory.specs.Model.{Object, State, at, begun, skipped, release, releases, finished, oneLess, worked, hasWork, inHold, any}
+use Rattle.theory.specs.Model.{workFirst, stepTwo, slot, Bounded, Past}
 use Rattle.theory.specs.Cases.{release-holds, work-holds}
+use Rattle.theory.specs.Holds.{work-left, in-hold, release-hold}
+use Rattle.theory.specs.Plain.{Whole}
 use Rattle.promises.specs.Encode.{objectOf, lapsedOf, storedOf, encode, encodes}
 use Rattle.promises.specs.Clock.{wrap-later, wrap-tick, wrap-same, age-true}
 use Rattle.promises.specs.Sound.{Sound}
@@ -66,6 +72,7 @@ pub record Known (now : ℕ) (p : PlanRow) (w : State) : Type 0 where
   pub planned-is : w .planned ≡ objectOf p
   pub bounded : Bounded now w
   pub past : Past now w
+  pub whole : Whole w
 
 module _ (now : ℕ) (p : PlanRow) (w : State) where
   -- step 1
@@ -111,6 +118,20 @@ module _ (now : ℕ) (p : PlanRow) (w : State) where
       more : 1 < w .left → servedOf (encode now p w) ≡ encode now p (oneLess w)
       more z = rw (lt-ltb 1 (w .left) z, ne-eqb (w .left) 0 (λ y. omega arith), ne-eqb (w .left - 1) 0 (λ y. omega arith))
 
+  -- a job is in its hold in 32 bits and in the theory alike: it has done as many units
+  pub hold-row : Known now p w → rules.inHold (encode now p w) ≡ inHold w
+  unfolding rules.inHold inHold encode
+  hold-row k = elim (decLe 1 (w .left)) [
+    | yes y ↦ rw (k .whole y, k .planned-is)
+    | no y ↦ rw (eq-eqb (w .left) 0 (omega arith))
+  ]
+
+  -- after step 1 too, which begins no hold and ends none
+  released-same : Known now p w → rules.inHold (encode now p (release now 0 w)) ≡ inHold (release now 0 w)
+  released-same k =
+      ap rules.inHold (sym (released-row k))
+      ∙ (released-hold (now % 2 ^ 32) (encode now p w) ∙ (hold-row k ∙ sym (release-hold now 0 w)))
+
   module _ (ok : Sound p) where
     -- step 3, for the stored value and for the sample in hand
     stored-row : (x : Option ℕ) → ((s : ℕ) → x ≡ some s → s ≤ now)
@@ -149,6 +170,15 @@ each-of [] (w ∷ ws) e f = absurd (omega arith)
 each-of (p ∷ ps) [] e f = absurd (omega arith)
 each-of (p ∷ ps) (w ∷ ws) e f = Each.also (f 0 (omega arith)) (each-of ps ws (omega arith) (λ i h. f (suc i) (omega arith)))
 
+pub each-more : {R S : PlanRow → State → Type 0} → ((p : PlanRow) (w : State) → R p w → S p w) → {ps : List PlanRow} {ws : List State}
+    → Each R ps ws → Each S ps ws
+each-more f Each.over = Each.over
+each-more f (Each.also {p = p} {w = w} k ks) = Each.also (f p w k) (each-more f ks)
+
+-- what step 2 asks
+abbrev pub SameHold : ℕ → PlanRow → State → Type 0
+SameHold now p w = rules.inHold (encode now p w) ≡ inHold w
+
 -- what step 3 asks
 abbrev pub Aging : ℕ → PlanRow → State → Type 0
 Aging now p w = Sound p × Past now w
@@ -160,27 +190,40 @@ module _ (now : ℕ) where
   step-one Each.over = refl
   step-one (Each.also {p = p} {w = w} k ks) = rw (released-row now p w k, step-one ks)
 
-  -- the first row with work left is the same; z tells whether the row at hand has none
-  first-row : (p : PlanRow) (w : State) (ps : List PlanRow) (ws : List State) (z : Bool) → eqb (w .left) 0 ≡ z
-      → serveFirst (encodes now ps ws) ≡ encodes now ps (workFirst hasWork ws)
-      → cond z (encode now p w ∷ serveFirst (encodes now ps ws)) (servedOf (encode now p w) ∷ encodes now ps ws)
-      ≡ encodes now (p ∷ ps) (cond (not z) (worked w ∷ ws) (w ∷ workFirst hasWork ws))
-  unfolding encodes
-  first-row p w ps ws true e ih = ap {B = List RunRow} (λ l. encode now p w ∷ l) ih
-  first-row p w ps ws false e ih =
-      let n : w .left ≢ 0 = eqb-false (w .left) 0 e in
-      ap (λ (r : RunRow). r ∷ encodes now ps ws) (served-row now p w (omega arith))
+  each-released : {ps : List PlanRow} {ws : List State} → Each (Known now) ps ws → Each (SameHold now) ps (releases now (λ i. 0) ws)
+  unfolding releases
+  each-released Each.over = Each.over
+  each-released (Each.also {p = p} {w = w} k ks) = Each.also (released-same now p w k) (each-released ks)
 
-  serve-first : (ps : List PlanRow) (ws : List State) → serveFirst (encodes now ps ws) ≡ encodes now ps (workFirst hasWork ws)
-  unfolding serveFirst encodes workFirst encode
-  serve-first [] ws = refl
-  serve-first (p ∷ ps) [] = refl
-  serve-first (p ∷ ps) (w ∷ ws) = first-row p w ps ws (eqb (w .left) 0) refl (serve-first ps ws)
+  -- the first row of those that may work is the same, where they are the same
+  serve-first : (f : RunRow → Bool) (q : State → Bool) → ((w : State) → q w ≡ true → 0 < w .left) → {ps : List PlanRow} {ws : List State}
+      → Each (λ p w. f (encode now p w) ≡ q w) ps ws → serveFirst f (encodes now ps ws) ≡ encodes now ps (workFirst q ws)
+  unfolding serveFirst encodes workFirst
+  serve-first f q h Each.over = refl
+  serve-first f q h (Each.also {p = p} {w = w} {ps = ps} {ws = ws} e es) = rw e (by-turn (q w) refl (serve-first f q h es))
+    where
+      by-turn : (v : Bool) → q w ≡ v → serveFirst f (encodes now ps ws) ≡ encodes now ps (workFirst q ws)
+          → cond v (servedOf (encode now p w) ∷ encodes now ps ws) (encode now p w ∷ serveFirst f (encodes now ps ws))
+          ≡ encodes now (p ∷ ps) (cond v (worked w ∷ ws) (w ∷ workFirst q ws))
+      by-turn true y ih = ap (λ (r : RunRow). r ∷ encodes now ps ws) (served-row now p w (h w y))
+      by-turn false y ih = ap {B = List RunRow} (λ l. encode now p w ∷ l) ih
 
-  step-two : (stolen : Bool) (ps : List PlanRow) (ws : List State)
-      → stepTwo stolen (encodes now ps ws) ≡ encodes now ps (cond stolen ws (workFirst hasWork ws))
-  step-two true ps ws = refl
-  step-two false ps ws = serve-first ps ws
+  -- a hold goes on in both or in none
+  pub any-same : {ps : List PlanRow} {ws : List State} → Each (SameHold now) ps ws
+      → rules.any rules.inHold (encodes now ps ws) ≡ any inHold ws
+  unfolding rules.any any encodes
+  any-same Each.over = refl
+  any-same (Each.also {w = w} e es) = rw e (ap (λ b. inHold w || b) (any-same es))
+
+  step-two : (stolen : Bool) {ps : List PlanRow} {ws : List State} → Each (SameHold now) ps ws
+      → run.stepTwo stolen (encodes now ps ws) ≡ encodes now ps (stepTwo stolen ws)
+  unfolding stepTwo mayWork encode
+  step-two true e = refl
+  step-two false {ps} {ws} e = rw (any-same e) (by-hold (any inHold ws))
+    where
+      by-hold : (held : Bool) → serveFirst (mayWork held) (encodes now ps ws) ≡ encodes now ps (workFirst (cond held inHold hasWork) ws)
+      by-hold true = serve-first (mayWork true) inHold (λ w h. in-hold w h .left-pos) e
+      by-hold false = serve-first (mayWork false) hasWork work-left (each-more (λ p w h. refl) e)
 
   step-three : {ps : List PlanRow} {ws : List State} → Each (Aging now) ps ws
       → stepThree (suc now % 2 ^ 32) (encodes now ps ws) ≡ encodes (suc now) ps ws
@@ -189,9 +232,8 @@ module _ (now : ℕ) where
   step-three (Each.also {p = p} {w = w} k ks) = rw (aged-row now p w (k .0) (k .1), step-three ks)
 
   -- the slot
-  pub slot-rows : (stolen : Bool) (ps : List PlanRow) (ws : List State)
-      → let ones = releases now (λ i. 0) ws in
-      let after = cond stolen ones (workFirst hasWork ones) in
-      Each (Known now) ps ws → Each (Aging now) ps after
-      → slotRows (now % 2 ^ 32) stolen (encodes now ps ws) ≡ encodes (suc now) ps after
-  slot-rows stolen ps ws k m = rw (step-one k, step-two stolen ps (releases now (λ i. 0) ws), wrap-tick now) (step-three m)
+  pub slot-rows : (stolen : Bool) (ps : List PlanRow) (ws : List State) → Each (Known now) ps ws
+      → Each (Aging now) ps (slot now (λ i. 0) stolen ws)
+      → slotRows (now % 2 ^ 32) stolen (encodes now ps ws) ≡ encodes (suc now) ps (slot now (λ i. 0) stolen ws)
+  unfolding slot
+  slot-rows stolen ps ws k m = rw (step-one k, step-two stolen (each-released k), wrap-tick now) (step-three m)

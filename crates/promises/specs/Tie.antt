@@ -2,7 +2,7 @@
 -- Assumes states in which a run can be: `Encodable`.
 use Prim.Native.Nat.{ℕ, zero, suc, _+_, _-_, _%_, _^_, _≤_, _<_}
 use mathlib.Core.Path.{_≡_, refl, ap, sym, _∙_}
-use mathlib.Core.Bool.{Bool, true, false, cond, _&&_}
+use mathlib.Core.Bool.{Bool, true, false, _&&_}
 use mathlib.Core.List.{List, [], _∷_, _++_, map}
 use mathlib.Core.Option.{Option, none, some}
 use native.Mathlib.Nat.{add-zero, add-suc}
@@ -19,17 +19,17 @@ use Rattle.rules.specs.Deadlines.{noPlanRow}
 use Rattle.rules.specs.RunState.{storedOk, restOk, handOk, rowOk, rowNone, every, idOf, distinct, acceptable}
 use Rattle.rules.specs.Run.{noRunRow, storedAs, slotOf}
 use Rattle.rules.proofs.Lists.{Every, every-append}
-use Rattle.theory.specs.Model.{Object, State, object, at, objects, hasWork, workFirst, releases, history, state, Acceptable}
-use Rattle.theory.specs.Track.{objects-length, objects-at, history-objects}
+use Rattle.theory.specs.Model.{Object, State, object, at, objects, actual, history, state, Acceptable}
+use Rattle.theory.specs.Track.{objects-length, objects-at, history-objects, history-length}
 use Rattle.theory.specs.Bounds.{stays-acceptable, sampled-before}
-use Rattle.theory.specs.Prefix.{Unheld}
-use Rattle.theory.specs.Plain.{plain-slot}
+use Rattle.theory.specs.Plain.{Whole, history-whole}
 use Rattle.promises.specs.Runs.{runAfter, Low, Fits, runRow}
 use Rattle.promises.specs.Encode.{objectOf, courseFrom, storedOf, encode, encodes, encodeRun}
 use Rattle.promises.specs.Clock.{wrap-tick, young-true, due-true}
 use Rattle.promises.specs.Sound.{Sound, sound-ok}
-use Rattle.promises.specs.Steps.{Known, Aging, Each, each-of, slot-rows}
+use Rattle.promises.specs.Steps.{Known, Aging, Each, each-of, each-more, hold-row, slot-rows}
 use Rattle.promises.specs.Steps.Each.{over, also}
+use Rattle.promises.specs.Holds.{one-to}
 use Rattle.theory.specs.Cases.{cond-holds}
 
 -- ── What the tie asks ──
@@ -43,18 +43,13 @@ pub record Encodable (ps : List PlanRow) (beyond : List RunRow) (now : ℕ) (ws 
   pub none-beyond : every rowNone beyond ≡ true
   pub low-beyond : Every Low beyond
   pub objects-are : objects ws ≡ map objectOf ps
+  pub whole : (i : ℕ) → i < length ws → Whole (at ws i)
   pub acceptable-then : Acceptable now ws
 
 pub object-at : (ps : List PlanRow) (i : ℕ) → i < length ps → object (map objectOf ps) i ≡ objectOf (getD ps i noPlanRow)
 object-at [] i h = absurd (omega arith)
 object-at (p ∷ ps) zero h = refl
 object-at (p ∷ ps) (suc i) h = object-at ps i (omega arith)
-
--- every hold is 1
-pub unheld-from : (ps : List PlanRow) (k : ℕ) → Unheld k (map objectOf ps)
-unheld-from ps k i l h =
-    let h′ : i < length ps = rw (length-map ps objectOf) at h in
-    rw (object-at ps i h′) (omega arith)
 
 module _ {ps : List PlanRow} {beyond : List RunRow} {now : ℕ} {ws : List State} (k : Encodable ps beyond now ws) where
   pub states-length : length ws ≡ length ps
@@ -75,6 +70,7 @@ module _ {ps : List PlanRow} {beyond : List RunRow} {now : ℕ} {ws : List State
         planned-is = planned-at i l;
         bounded = k .acceptable-then .bounded i h;
         past = k .acceptable-then .past i h;
+        whole = k .whole i h;
       })
 
 -- ── The tie ──
@@ -95,6 +91,7 @@ encodes-at now (p ∷ ps) (w ∷ ws) beyond e (suc i) h = encodes-at now ps ws b
 
 module _ {ps : List PlanRow} {beyond : List RunRow} {from : ℕ} {ws : List State} (k : Encodable ps beyond from ws) (stolen : ℕ → Bool) where
   pub encodable-after : (t : ℕ) → Encodable ps beyond (from + t) (history (courseFrom from ws stolen) t)
+  unfolding actual
   encodable-after t = record {
     count-pos = k .count-pos;
     size = k .size;
@@ -103,6 +100,9 @@ module _ {ps : List PlanRow} {beyond : List RunRow} {from : ℕ} {ws : List Stat
     none-beyond = k .none-beyond;
     low-beyond = k .low-beyond;
     objects-are = history-objects (courseFrom from ws stolen) t ∙ k .objects-are;
+    whole = λ i h.
+        let l = rw (history-length (courseFrom from ws stolen) t) at h in
+        history-whole (courseFrom from ws stolen) i l (λ u. refl) (k .whole i l) t;
     acceptable-then = stays-acceptable (courseFrom from ws stolen) (k .acceptable-then) t;
   }
 
@@ -117,9 +117,6 @@ module _ {ps : List PlanRow} {beyond : List RunRow} {from : ℕ} {ws : List Stat
       let hs = history c t in
       let m = encodable-after t in
       let n = encodes-length now ps hs (states-length m) in
-      let ones = releases now (λ i. 0) hs in
-      let after = cond (stolen t) ones (workFirst hasWork ones) in
-      let plain : history c (suc t) ≡ after = plain-slot c (rw (k .objects-are) (unheld-from ps 0)) t in
       let m′ = encodable-after (suc t) in
       let aging = each-of {R = Aging now} ps (history c (suc t)) (sym (states-length m′))
       (λ i h.
@@ -129,10 +126,9 @@ module _ {ps : List PlanRow} {beyond : List RunRow} {from : ℕ} {ws : List Stat
         run-history t,
         take-at (encodes now ps hs) beyond (length ps) n,
         drop-at (encodes now ps hs) beyond (length ps) n,
-        slot-rows now (stolen t) ps hs (each-known m) (rw plain at aging),
+        slot-rows now (stolen t) ps hs (each-known m) aging,
         wrap-tick now,
         add-suc,
-        ← plain,
       )
 
 -- ── Such a run is acceptable ──
@@ -223,6 +219,7 @@ module _ {ps : List PlanRow} {beyond : List RunRow} {now : ℕ} {ws : List State
         drop-at (encodes now ps ws) beyond (length ps) n,
         rows-ids now e,
         rows-ok now e,
+        one-to now (each-more (hold-row now) e) (k .acceptable-then .one-hold),
         k .none-beyond,
         k .ids-differ,
         le-leb 1 (length ps) (k .count-pos),

@@ -78,8 +78,8 @@ pub(crate) fn draw(
 // What the signs mean.
 fn print_legend() {
     printing::text(
-        b"Objects in priority order: a job waits for those above it, or for a slot that is not stolen.\n\
-job:   R released and ran    # ran    * ran, a release skipped    . no job in hand\n\
+        b"Objects in priority order: a job waits for those above it, for one below it that is in its hold, or for a slot that is not stolen.\n\
+job:   R released and ran    # ran    * ran, a release skipped    H, % as # and *, in its hold    . no job in hand\n\
 \x20      r released and waits  - waits  ! waits, a release skipped\n\
 value: = fresh  ? stale  blank: none yet      stolen slots: x\n",
     );

@@ -109,7 +109,17 @@ fn followed_row(all: Incidents, row: usize, slot: u32, was: RunRow, is: RunRow) 
     }
 }
 
-// Who had the core in a slot: the place of the object that ran, 64 for nobody, 65 where the slot was stolen.
+// An object that ran: its place, or 66 and its place where it was in its hold.
+fn owner_at(place: u8, held: bool) -> u8 {
+    if held {
+        if place < 64 {
+            return 66 + place;
+        }
+    }
+    place
+}
+
+// Who had the core in a slot: the object that ran, 64 for nobody, 65 where the slot was stolen.
 pub(crate) fn owner(before: Run, after: Run, taken: bool) -> u8 {
     let mut owner = 64;
     if taken {
@@ -120,7 +130,7 @@ pub(crate) fn owner(before: Run, after: Run, taken: bool) -> u8 {
             let was = before.rows[i as usize];
             let is = after.rows[i as usize];
             if tallies::ran(before.clock, was, is) {
-                owner = i;
+                owner = owner_at(i, tallies::in_hold(before.clock, was));
             }
         }
     }
@@ -138,12 +148,12 @@ fn place_of(owner: u8) -> usize {
 }
 
 // How many of the slots from `from` to before `to` went to each.
-fn shares(owners: &[u8; 1000000], from: u32, to: u32) -> [u32; 66] {
-    let mut counts = [0u32; 66];
+fn shares(owners: &[u8; 1000000], from: u32, to: u32) -> [u32; 130] {
+    let mut counts = [0u32; 130];
     for k in 0..1000000usize {
         if (from as usize <= k) & (k < to as usize) {
             let owner = place_of(owners[k]);
-            if owner < 66 {
+            if owner < 130 {
                 counts[owner] = std::num::wrapping_add_u32(counts[owner], 1);
             }
         }
@@ -159,6 +169,7 @@ slot #: object #, released at #, slots stale: #; \n\
 slot #: object #, released at #, slots stale: #, to the end; \n\
 stolen #\n\
 , object #: #\n\
+\x20(# in its hold)\n\
 , idle #\n\
 .. and # more\n",
         piece,
@@ -169,24 +180,26 @@ stolen #\n\
     );
 }
 
-// The share of one object, or at 64 of nobody, if there is any.
-fn print_share(run: Run, place: usize, units: u32) {
-    if units == 0 {
-        return;
+// The share of one object, if there is any, and how much of it was in its hold.
+fn print_share(id: u16, free: u32, held: u32) {
+    let units = std::num::wrapping_add_u32(free, held);
+    if units != 0 {
+        say(5, id as u64, units as u64, 0, 0);
     }
-    if place < 64 {
-        let row = run.rows[place];
-        say(5, row.planned.id as u64, units as u64, 0, 0);
-    } else {
-        say(6, units as u64, 0, 0, 0);
+    if held != 0 {
+        say(6, held as u64, 0, 0, 0);
     }
 }
 
-// Who had the core, the stolen slots first.
-fn print_shares(run: Run, counts: [u32; 66]) {
+// Who had the core, the stolen slots first and those of nobody last.
+fn print_shares(run: Run, counts: [u32; 130]) {
     say(4, tallies::wide(counts[65]), 0, 0, 0);
-    for i in 0..65usize {
-        print_share(run, i, counts[i]);
+    for i in 0..64usize {
+        let row = run.rows[i];
+        print_share(row.planned.id, counts[i], counts[i + 66]);
+    }
+    if counts[64] != 0 {
+        say(7, tallies::wide(counts[64]), 0, 0, 0);
     }
     printing::byte(b'\n');
 }
@@ -230,7 +243,7 @@ pub(crate) fn print(run: Run, all: Incidents, slots: usize, owners: &[u8; 100000
         }
     }
     if 20 < all.count {
-        say(7, all.count as u64 - 20, 0, 0, 0);
+        say(8, all.count as u64 - 20, 0, 0, 0);
         printing::byte(b'\n');
     }
 }

@@ -79,9 +79,10 @@ pub(crate) fn run_through(
         let taken = is_stolen(pattern, at);
         let stepped = running::slot(now, taken);
         let after = stepped.run;
-        incidents::note(owners, k, incidents::owner(now, after, taken));
+        let owner = incidents::owner(now, after, taken);
+        incidents::note(owners, k, owner);
         draw(jobs, values, marks, first, k, taken, now, after);
-        let more = tallies::tallied(all, now, after);
+        let more = tallies::tallied(all, now, after, owner);
         all = more;
         let longer = incidents::followed(stale, now, after);
         stale = longer;

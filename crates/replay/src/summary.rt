@@ -26,7 +26,8 @@ fn put_planned(line: &mut [u8; 160], row: PlanRow) -> usize {
     let id = put_padded(line, 0, row.id as u64, 6);
     let cost = put_padded(line, id, row.cost as u64, 9);
     let validity = put_padded(line, cost, row.validity as u64, 9);
-    let deadline = put_padded(line, validity, row.deadline as u64, 9);
+    let hold = put_padded(line, validity, row.hold as u64, 9);
+    let deadline = put_padded(line, hold, row.deadline as u64, 9);
     put_padded(line, deadline, row.period as u64, 9)
 }
 
@@ -49,13 +50,14 @@ fn print_row(row: RunRow, tally: Tally) {
     let none = put_padded(&mut line, age, tally.none as u64, 9);
     let stale = put_padded(&mut line, none, tally.stale as u64, 9);
     let skips = put_padded(&mut line, stale, row.skips as u64, 9);
-    end(&mut line, skips);
+    let held_up = put_padded(&mut line, skips, tally.held_up as u64, 9);
+    end(&mut line, held_up);
 }
 
 // The table: the heading stands over columns of 6 and then 9 signs.
 fn print_rows(run: Run, all: Tallies) {
     printing::text(
-        b"    id     cost validity deadline   period   oldest     none    stale  skipped\n",
+        b"    id     cost validity     hold deadline   period   oldest     none    stale  skipped  held up\n",
     );
     let rows = all.rows;
     for i in 0..64usize {
@@ -90,14 +92,15 @@ fn print_lacking(run: Run, all: Tallies, last: u32) {
     }
 }
 
-// The pieces of the last lines.
+// The pieces of the lines below the table.
 fn say(piece: usize, a: u64, b: u64, c: u64, d: u64) {
     printing::filled(
         b"oldest: the greatest age of a value; none, stale: slots that left no value yet, or a stale one; skipped: releases that came while a job was in hand\n\
 No value was ever stale; \n\
 Some values were stale (times: #, slots in all: #); \n\
 every value was current from slot # on.\n\
-not current at the end:\n",
+not current at the end:\n\
+held up: slots in which a job waited for one behind it that was in its hold\n",
         piece,
         a,
         b,
@@ -128,5 +131,7 @@ pub(crate) fn print_end(run: Run, all: Tallies, slots: usize, incidents: usize) 
 pub(crate) fn print(run: Run, all: Tallies) {
     print_rows(run, all);
     say(0, 0, 0, 0, 0);
+    printing::byte(b'\n');
+    say(5, 0, 0, 0, 0);
     printing::byte(b'\n');
 }

@@ -1,18 +1,21 @@
 // What happened to one object in one slot, told from its row before the slot and after it, and what is counted of it.
 ghost use mathlib.Core.Path.{_≡_};
 ghost use Rattle.rules.specs.Run.{releasedOf};
+ghost use Rattle.rules.specs.RunState.{inHold};
 use rules::Run;
 use rules::RunRow;
 use rules::Stored;
 
 // What is counted of an object: the sample instant of its stored value, the longest age seen, how many slots left it with
-// no value and with a stale one, and the instant after the last such slot.
+// no value and with a stale one, the instant after the last such slot, and in how many slots its job waited for one behind it that was in
+// its hold.
 pub struct Tally {
     pub sampled: u32,
     pub longest: u32,
     pub none: u32,
     pub stale: u32,
     pub lacking: u32,
+    pub held_up: u32,
 }
 
 pub struct Tallies {
@@ -26,6 +29,7 @@ pub(crate) fn no_tallies() -> Tallies {
         none: 0,
         stale: 0,
         lacking: 0,
+        held_up: 0,
     };
     let rows = [none; 64];
     Tallies { rows }
@@ -55,6 +59,18 @@ pub(crate) fn sample_at_hand(clock: u32, before: RunRow) -> u32
     before.sample
 }
 
+// Whether the job at hand after step 1 is in its hold: it has done a unit, and not yet as many as its hold has.
+pub(crate) fn in_hold(clock: u32, before: RunRow) -> bool
+    ensures { λ r. ⌜ r ≡ inHold (releasedOf clock before) ⌝ }
+{
+    let left = work_at_hand(clock, before);
+    let planned = before.planned;
+    if planned.cost <= left {
+        return false;
+    }
+    (left != 0) & (planned.cost - left < planned.hold)
+}
+
 // Whether the object did a unit of work.
 pub(crate) fn ran(clock: u32, before: RunRow, after: RunRow) -> bool {
     work_at_hand(clock, before) != after.left
@@ -67,14 +83,16 @@ fn chosen(test: bool, yes: u8, no: u8) -> u8 {
 // The sign of the job: upper line of an object.
 pub(crate) fn job_sign(clock: u32, before: RunRow, after: RunRow) -> u8 {
     let worked = ran(clock, before, after);
+    let held = in_hold(clock, before);
     if before.next == clock {
         if before.left == 0 {
             chosen(worked, b'R', b'r')
         } else {
-            chosen(worked, b'*', b'!')
+            chosen(worked, chosen(held, b'%', b'*'), b'!')
         }
     } else {
-        chosen(worked, b'#', chosen(before.left == 0, b'.', b'-'))
+        let waits = chosen(before.left == 0, b'.', b'-');
+        chosen(worked, chosen(held, b'H', b'#'), waits)
     }
 }
 
@@ -105,14 +123,26 @@ fn one_more(n: u32) -> u32 {
     std::num::wrapping_add_u32(n, 1)
 }
 
-// The tally after one slot more. The run is no longer than its clock goes round, so an age counted on from the sample is true
-// also where the stored value has lapsed.
-fn tallied_row(tally: Tally, clock: u32, before: RunRow, after: RunRow) -> Tally {
+// Whether the core was kept, by a hold, for an object behind this place.
+fn kept_behind(place: usize, owner: u8) -> bool {
+    if place < 64 {
+        place + 66 < owner as usize
+    } else {
+        false
+    }
+}
+
+// The tally after one slot more; `kept`: in it the core was kept for an object behind. The run is no longer than its clock goes round, so
+// an age counted on from the sample is true also where the stored value has lapsed.
+fn tallied_row(tally: Tally, clock: u32, before: RunRow, after: RunRow, kept: bool) -> Tally {
     let sampled = sampled_after(tally.sampled, clock, before, after);
     let now = one_more(clock);
     let longest = larger(tally.longest, std::num::wrapping_sub_u32(now, sampled));
     let mut next = tally;
     next.sampled = sampled;
+    if kept & (work_at_hand(clock, before) != 0) {
+        next.held_up = one_more(tally.held_up);
+    }
     let stored = after.stored;
     match stored {
         Stored::Empty => {
@@ -131,15 +161,15 @@ fn tallied_row(tally: Tally, clock: u32, before: RunRow, after: RunRow) -> Tally
     next
 }
 
-// All tallies after one slot more.
-pub(crate) fn tallied(tallies: Tallies, before: Run, after: Run) -> Tallies {
+// All tallies after one slot more; `owner` is who had it (`incidents::owner`).
+pub(crate) fn tallied(tallies: Tallies, before: Run, after: Run, owner: u8) -> Tallies {
     let mut rows = tallies.rows;
     for i in 0..64usize {
         if i < before.count {
             let old = rows[i];
             let was = before.rows[i];
             let is = after.rows[i];
-            let new = tallied_row(old, before.clock, was, is);
+            let new = tallied_row(old, before.clock, was, is, kept_behind(i, owner));
             rows[i] = new;
         }
     }

@@ -7,7 +7,7 @@ use native.Mathlib.Omega.{arith}
 use Rattle.rules.specs.declared.Reading.{Reading}
 use Rattle.rules.specs.declared.Reading.the-variants as reading
 use Rattle.rules.specs.declared.Refusal.{Refusal}
-use Rattle.rules.specs.declared.Refusal.the-variants.{TooShort, TooLong, WrongMark, CountRange, DistanceSmall, SpareUsed, CostRange, ValidityRange, IdRepeated, NoDeadline, FirstsCount, FirstRange, NotRunState, NoSuchId, DistanceLarge, BufferSmall, LineForm}
+use Rattle.rules.specs.declared.Refusal.the-variants.{TooShort, TooLong, WrongMark, CountRange, DistanceSmall, HoldRange, CostRange, ValidityRange, IdRepeated, NoDeadline, FirstsCount, FirstRange, NotRunState, NoSuchId, DistanceLarge, BufferSmall, LineForm}
 use Rattle.rules.specs.declared.Verdict.{Verdict}
 use Rattle.rules.specs.declared.Verdict.the-variants.{Accepted, Refused}
 use Rattle.rules.specs.Refusals.{Told, told, readingTold}
@@ -21,7 +21,7 @@ verdicts k =
     ∷ Refused WrongMark k
     ∷ Refused CountRange k
     ∷ Refused DistanceSmall k
-    ∷ Refused SpareUsed k
+    ∷ Refused HoldRange k
     ∷ Refused CostRange k
     ∷ Refused ValidityRange k
     ∷ Refused IdRepeated k
@@ -45,7 +45,7 @@ named (Refused TooLong k) = refl
 named (Refused WrongMark k) = refl
 named (Refused CountRange k) = refl
 named (Refused DistanceSmall k) = refl
-named (Refused SpareUsed k) = refl
+named (Refused HoldRange k) = refl
 named (Refused CostRange k) = refl
 named (Refused ValidityRange k) = refl
 named (Refused IdRepeated k) = refl

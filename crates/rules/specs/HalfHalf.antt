@@ -13,7 +13,7 @@ use Rattle.rules.specs.Deadlines.{planBy, onAccepted}
 -- "deadline and period both half the validity, rounded down"; "An object fits if the smallest balancing t, worked out with those periods, is
 -- at most its half", so the t itself does not matter
 abbrev pub halfRow : ObjectRow → ℕ → PlanRow
-halfRow r t = record { id = r .id; cost = r .cost; validity = r .validity; deadline = r .validity / 2; period = r .validity / 2 }
+halfRow r t = record { id = r .id; cost = r .cost; validity = r .validity; hold = r .hold; deadline = r .validity / 2; period = r .validity / 2 }
 
 -- what the classic plan answers, "in the same object order"; "Refusals: 10 with its place, as for our plan"
 abbrev pub classicOf : Table → Planned

@@ -10,7 +10,7 @@ use Rattle.rules.specs.StoredTable.{tableOf, readVerdict}
 use Rattle.rules.specs.Writing.{tableBytes, bufferAfter}
 use Rattle.rules.specs.Numbers.{row}
 
--- a record of id, spare, cost and validity, each below 256; a trailer of distance (below 256) and count (below 256), with the mark 4D 4C
+-- a record of id, hold less one, cost and validity, each below 256; a trailer of distance (below 256) and count (below 256), with the mark 4D 4C
 abbrev pub stored : ℕ → ℕ → ℕ → ℕ → List ℕ
 stored i s c v = i ∷ 0 ∷ s ∷ 0 ∷ c ∷ 0 ∷ 0 ∷ 0 ∷ v ∷ 0 ∷ 0 ∷ 0 ∷ []
 
@@ -36,8 +36,9 @@ storedTable =
     ∷ record { bytes = stored 1 0 1 4 ++ trailer 21 2; tells = 5 atPlace 0 }
     -- a gap before the record and one behind it
     ∷ record { bytes = 9 ∷ stored 1 0 1 4 ++ 9 ∷ trailer 21 1; tells = 0 atPlace 0 }
-    -- a record that breaks 6 and 7, behind a good one; one that breaks 7 ahead of one that breaks 6
-    ∷ record { bytes = stored 1 0 1 4 ++ stored 2 1 0 4 ++ trailer 32 2; tells = 6 atPlace 1 }
+    -- a record that breaks 7, 6 and 8, behind a good one; one that breaks 6 and 8; one that breaks 7 ahead of one that breaks 6
+    ∷ record { bytes = stored 1 0 1 4 ++ stored 2 1 0 1 ++ trailer 32 2; tells = 7 atPlace 1 }
+    ∷ record { bytes = stored 1 0 1 4 ++ stored 2 1 1 1 ++ trailer 32 2; tells = 6 atPlace 1 }
     ∷ record { bytes = stored 1 0 0 4 ++ stored 2 1 1 4 ++ trailer 32 2; tells = 7 atPlace 0 }
     ∷ []
 

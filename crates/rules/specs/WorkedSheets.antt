@@ -15,9 +15,9 @@ use Rattle.rules.specs.WorkedBytes.{nines}
 abbrev pub digits : List ℕ → List ℕ
 digits ds = map (λ (d : ℕ). digit0 + d) ds
 
--- the line "1,1,4" without its end; a line end; the line "1,1,4"
+-- the line "1,1,4,1" without its end; a line end; the line "1,1,4,1"
 abbrev pub bare : List ℕ
-bare = digits (1 ∷ []) ++ comma ∷ digits (1 ∷ []) ++ comma ∷ digits (4 ∷ [])
+bare = digits (1 ∷ []) ++ comma ∷ digits (1 ∷ []) ++ comma ∷ digits (4 ∷ []) ++ comma ∷ digits (1 ∷ [])
 
 abbrev pub ended : List ℕ
 ended = cr ∷ lf ∷ []
@@ -25,9 +25,12 @@ ended = cr ∷ lf ∷ []
 abbrev pub good : List ℕ
 good = bare ++ ended
 
--- the line of an id, a cost and a validity, given by their digits
+-- the line of an id, a cost and a validity, given by their digits, and a hold of one digit
+abbrev pub lineOf : List ℕ → List ℕ → List ℕ → ℕ → List ℕ
+lineOf i c v h = digits i ++ comma ∷ digits c ++ comma ∷ digits v ++ comma ∷ digits (h ∷ []) ++ ended
+
 abbrev pub line : List ℕ → List ℕ → List ℕ → List ℕ
-line i c v = digits i ++ comma ∷ digits c ++ comma ∷ digits v ++ ended
+line i c v = lineOf i c v 1
 
 -- ── Imported ──
 
@@ -42,14 +45,14 @@ pub record SheetCase : Type 0 where
 abbrev pub sheetTable : List SheetCase
 sheetTable =
     record { sheet = good; found = (0 atPlace 0, 1) }
-    -- "+1,1,4"; " 1,1,4"; "\"1\",1,4"; ",1,4"; "01,1,4"; "1,1,4,"; "1,1"
+    -- "+1,1,4,1"; " 1,1,4,1"; "\"1\",1,4,1"; ",1,4,1"; "01,1,4,1"; "1,1,4,1,"; "1,1,4"
     ∷ record { sheet = 43 ∷ good; found = (17 atPlace 0, 0) }
     ∷ record { sheet = 32 ∷ good; found = (17 atPlace 0, 0) }
-    ∷ record { sheet = 34 ∷ digits (1 ∷ []) ++ 34 ∷ comma ∷ digits (1 ∷ []) ++ comma ∷ digits (4 ∷ []) ++ ended; found = (17 atPlace 0, 0) }
-    ∷ record { sheet = comma ∷ digits (1 ∷ []) ++ comma ∷ digits (4 ∷ []) ++ ended; found = (17 atPlace 0, 0) }
+    ∷ record { sheet = 34 ∷ digits (1 ∷ []) ++ 34 ∷ comma ∷ digits (1 ∷ []) ++ comma ∷ digits (4 ∷ []) ++ comma ∷ digits (1 ∷ []) ++ ended; found = (17 atPlace 0, 0) }
+    ∷ record { sheet = comma ∷ digits (1 ∷ []) ++ comma ∷ digits (4 ∷ []) ++ comma ∷ digits (1 ∷ []) ++ ended; found = (17 atPlace 0, 0) }
     ∷ record { sheet = digits (0 ∷ []) ++ good; found = (17 atPlace 0, 0) }
     ∷ record { sheet = bare ++ comma ∷ ended; found = (17 atPlace 0, 0) }
-    ∷ record { sheet = digits (1 ∷ []) ++ comma ∷ digits (1 ∷ []) ++ ended; found = (17 atPlace 0, 0) }
+    ∷ record { sheet = digits (1 ∷ []) ++ comma ∷ digits (1 ∷ []) ++ comma ∷ digits (4 ∷ []) ++ ended; found = (17 atPlace 0, 0) }
     -- the id 65535 and 65536; the cost 4294967295 (7) and 4294967296; the number 0 as an id, and as a cost (7)
     ∷ record { sheet = line (6 ∷ 5 ∷ 5 ∷ 3 ∷ 5 ∷ []) (1 ∷ []) (4 ∷ []); found = (0 atPlace 0, 1) }
     ∷ record { sheet = line (6 ∷ 5 ∷ 5 ∷ 3 ∷ 6 ∷ []) (1 ∷ []) (4 ∷ []); found = (17 atPlace 0, 0) }
@@ -57,6 +60,10 @@ sheetTable =
     ∷ record { sheet = line (1 ∷ []) (4 ∷ 2 ∷ 9 ∷ 4 ∷ 9 ∷ 6 ∷ 7 ∷ 2 ∷ 9 ∷ 6 ∷ []) (4 ∷ []); found = (17 atPlace 0, 0) }
     ∷ record { sheet = line (0 ∷ []) (1 ∷ []) (4 ∷ []); found = (0 atPlace 0, 1) }
     ∷ record { sheet = line (1 ∷ []) (0 ∷ []) (4 ∷ []); found = (7 atPlace 0, 0) }
+    -- a hold of 0 (6), one above the cost (6), and one that is the cost
+    ∷ record { sheet = lineOf (1 ∷ []) (2 ∷ []) (4 ∷ []) 0; found = (6 atPlace 0, 0) }
+    ∷ record { sheet = lineOf (1 ∷ []) (2 ∷ []) (4 ∷ []) 3; found = (6 atPlace 0, 0) }
+    ∷ record { sheet = lineOf (1 ∷ []) (2 ∷ []) (4 ∷ []) 2; found = (0 atPlace 0, 1) }
     -- a line ended by CR alone, by LF alone, and by nothing
     ∷ record { sheet = bare ++ cr ∷ good; found = (17 atPlace 0, 0) }
     ∷ record { sheet = bare ++ lf ∷ good; found = (17 atPlace 0, 0) }
@@ -89,7 +96,7 @@ unfolding decimal
 exported-right = refl
 
 -- a buffer of nines after exporting: one byte more than needed, one byte less (16), and rows that are refused (7)
-pub sheets-left : map (λ (c : List ObjectRow × ℕ). sheetAfter (tableOf (c .0)) (nines (c .1))) ((row 1 1 4 ∷ [], 8) ∷ (row 1 1 4 ∷ [], 6) ∷ (row 1 0 4 ∷ [], 8) ∷ [])
-    ≡ (good ++ nines 1) ∷ nines 6 ∷ nines 8 ∷ []
+pub sheets-left : map (λ (c : List ObjectRow × ℕ). sheetAfter (tableOf (c .0)) (nines (c .1))) ((row 1 1 4 ∷ [], 10) ∷ (row 1 1 4 ∷ [], 8) ∷ (row 1 0 4 ∷ [], 10) ∷ [])
+    ≡ (good ++ nines 1) ∷ nines 8 ∷ nines 10 ∷ []
 unfolding decimal
 sheets-left = refl

@@ -4,11 +4,12 @@ use Prim.Native.Nat.{ℕ, zero, suc, _+_, _-_, _^_, _≤_, _<_}
 use mathlib.Core.Path.{_≡_, refl, sym, ap}
 use mathlib.Core.Bool.{Bool, true, false, cond, _||_}
 use native.Mathlib.Omega.{arith}
-use borrow.Author.Tests.{eq-eqb, ne-eqb, lt-ltb}
+use borrow.Author.Tests.{eq-eqb, ne-eqb, lt-ltb, le-ltb}
 use lib.Dec.{eqb, leb, ltb}
 use Rattle.rules.specs.declared.RunRow.{RunRow}
-use Rattle.rules.specs.RunState.{ageOf, dueIn}
+use Rattle.rules.specs.RunState.{ageOf, dueIn, inHold}
 use Rattle.rules.specs.Run.{later, tick, releasedOf, servedOf, agedStored, agedOf, storedAs}
+use Rattle.rules.proofs.Holds.{idle-free}
 use Rattle.running.specs.Rests.{Rests}
 
 -- ── The clock ──
@@ -84,6 +85,11 @@ unfolding agedOf
 rests-less clock n row h q =
     let z : row .left ≡ 0 → ⊥ = λ w. omega arith in
     λ e k. aged-same _ (lessOf row) (ap (λ (r : RunRow). r .stored) (q e k)) (λ w. rw (ne-eqb _ _ z) at (ap (λ (r : RunRow). r .lapsed) (q e k)))
+
+-- nothing is left of a job behind its last unit, so it is in no hold
+pub served-free : (row : RunRow) → row .left ≤ 1 → inHold (servedOf row) ≡ false
+unfolding servedOf
+served-free row h = rw (le-ltb 1 (row .left) h) (idle-free _ refl)
 
 pub served-next : (row : RunRow) → servedOf row .next ≡ row .next
 unfolding servedOf

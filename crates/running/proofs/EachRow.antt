@@ -5,12 +5,13 @@ use mathlib.Core.Bool.{Bool, true, false, not, cond}
 use mathlib.Core.List.{List, [], _∷_, _++_, map}
 use native.Mathlib.Numerals.{add-one}
 use native.Mathlib.Omega.{arith}
-use borrow.Author.Tests.{eq-eqb, ne-eqb}
+use borrow.Author.Tests.{ne-eqb}
 use lib.Dec.{eqb}
 use lib.ListN.{length, take, drop, getD, set}
 use lib.Seq.{set-getD}
 use Rattle.rules.specs.declared.RunRow.{RunRow}
-use Rattle.rules.specs.Run.{tick, releasedOf, servedOf, agedOf, serveFirst, slotRows}
+use Rattle.rules.specs.RunState.{inHold, any}
+use Rattle.rules.specs.Run.{tick, releasedOf, servedOf, mayWork, agedOf, serveFirst, slotRows}
 
 -- ── The three steps at the first n rows ──
 
@@ -19,10 +20,11 @@ eachIn f zero l = l
 eachIn f (suc n) [] = []
 eachIn f (suc n) (r ∷ l) = f r ∷ eachIn f n l
 
-unfoldable pub serveIn : ℕ → List RunRow → List RunRow
-serveIn zero l = l
-serveIn (suc n) [] = []
-serveIn (suc n) (r ∷ l) = cond (eqb (r .left) 0) (r ∷ serveIn n l) (servedOf r ∷ l)
+-- of these the first with p gets the slot
+unfoldable pub serveIn : (RunRow → Bool) → ℕ → List RunRow → List RunRow
+serveIn p zero l = l
+serveIn p (suc n) [] = []
+serveIn p (suc n) (r ∷ l) = cond (p r) (servedOf r ∷ l) (r ∷ serveIn p n l)
 
 each-is : (f : RunRow → RunRow) (n : ℕ) (l : List RunRow) → map f (take n l) ++ drop n l ≡ eachIn f n l
 unfolding eachIn
@@ -42,32 +44,33 @@ drop-each f zero l = refl
 drop-each f (suc n) [] = refl
 drop-each f (suc n) (r ∷ l) = drop-each f n l
 
-take-serve : (n : ℕ) (l : List RunRow) → take n (serveIn n l) ≡ serveFirst (take n l)
+take-serve : (p : RunRow → Bool) (n : ℕ) (l : List RunRow) → take n (serveIn p n l) ≡ serveFirst p (take n l)
 unfolding serveIn serveFirst
-take-serve zero l = refl
-take-serve (suc n) [] = refl
-take-serve (suc n) (r ∷ l) = step (eqb (r .left) 0) (take-serve n l)
+take-serve p zero l = refl
+take-serve p (suc n) [] = refl
+take-serve p (suc n) (r ∷ l) = step (p r) (take-serve p n l)
   where
-    step : (b : Bool) → take n (serveIn n l) ≡ serveFirst (take n l) → take (suc n) (cond b (r ∷ serveIn n l) (servedOf r ∷ l)) ≡ cond b (r ∷ serveFirst (take n l)) (servedOf r ∷ take n l)
-    step true e = rw e
-    step false e = refl
+    step : (b : Bool) → take n (serveIn p n l) ≡ serveFirst p (take n l) → take (suc n) (cond b (servedOf r ∷ l) (r ∷ serveIn p n l)) ≡ cond b (servedOf r ∷ take n l) (r ∷ serveFirst p (take n l))
+    step true e = refl
+    step false e = rw e
 
-drop-serve : (n : ℕ) (l : List RunRow) → drop n (serveIn n l) ≡ drop n l
+drop-serve : (p : RunRow → Bool) (n : ℕ) (l : List RunRow) → drop n (serveIn p n l) ≡ drop n l
 unfolding serveIn
-drop-serve zero l = refl
-drop-serve (suc n) [] = refl
-drop-serve (suc n) (r ∷ l) = step (eqb (r .left) 0) (drop-serve n l)
+drop-serve p zero l = refl
+drop-serve p (suc n) [] = refl
+drop-serve p (suc n) (r ∷ l) = step (p r) (drop-serve p n l)
   where
-    step : (b : Bool) → drop n (serveIn n l) ≡ drop n l → drop (suc n) (cond b (r ∷ serveIn n l) (servedOf r ∷ l)) ≡ drop n l
-    step true e = e
-    step false e = refl
+    step : (b : Bool) → drop n (serveIn p n l) ≡ drop n l → drop (suc n) (cond b (servedOf r ∷ l) (r ∷ serveIn p n l)) ≡ drop n l
+    step true e = refl
+    step false e = e
 
--- the slot, step by step
-pub slot-is : (clock n : ℕ) (free : Bool) (l : List RunRow) → slotRows clock (not free) (take n l) ++ drop n l ≡ eachIn (agedOf (tick clock)) n (serveIn (cond free n 0) (eachIn (releasedOf clock) n l))
+-- the slot, step by step; `holding` says whether a row is in its hold after step 1
+pub slot-is : (clock n : ℕ) (holding free : Bool) (l : List RunRow) → any inHold (take n (eachIn (releasedOf clock) n l)) ≡ holding → slotRows clock (not free) (take n l) ++ drop n l ≡ eachIn (agedOf (tick clock)) n (serveIn (mayWork holding) (cond free n 0) (eachIn (releasedOf clock) n l))
 unfolding serveIn
-slot-is clock n true l =
-    rw (← each-is (agedOf (tick clock)) n (serveIn n (eachIn (releasedOf clock) n l)), take-serve n (eachIn (releasedOf clock) n l), drop-serve n (eachIn (releasedOf clock) n l), take-each (releasedOf clock) n l, drop-each (releasedOf clock) n l)
-slot-is clock n false l =
+slot-is clock n holding true l h =
+    let e = rw (take-each (releasedOf clock) n l) at h in
+    rw (e, ← each-is (agedOf (tick clock)) n (serveIn (mayWork holding) n (eachIn (releasedOf clock) n l)), take-serve (mayWork holding) n (eachIn (releasedOf clock) n l), drop-serve (mayWork holding) n (eachIn (releasedOf clock) n l), take-each (releasedOf clock) n l, drop-each (releasedOf clock) n l)
+slot-is clock n holding false l h =
     rw (← each-is (agedOf (tick clock)) n (eachIn (releasedOf clock) n l), take-each (releasedOf clock) n l, drop-each (releasedOf clock) n l)
 
 -- ── A step goes over the rows from the front ──
@@ -103,20 +106,22 @@ each-all f (suc calm) count upto i l l₀ u a b e q =
     let z : l ≡ l₀ = rw w at e in
     z ∙ sym (each-none f count l₀ (q (omega arith)))
 
--- ── The first row with work ──
+-- ── The first row that gets the slot ──
 
-abbrev pub AllIdle : ℕ → List RunRow → Type 0
-AllIdle n l = (i : ℕ) (d : RunRow) → i < n → getD l i d .left ≡ 0
+-- none of the first n rows has p
+abbrev pub AllRest : (RunRow → Bool) → ℕ → List RunRow → Type 0
+AllRest p n l = (i : ℕ) (d : RunRow) → i < n → p (getD l i d) ≡ false
 
-pub serve-none : (n : ℕ) (l : List RunRow) → AllIdle n l → serveIn n l ≡ l
-unfolding serveIn
-serve-none zero l w = refl
-serve-none (suc n) [] w = refl
-serve-none (suc n) (r ∷ l) w = rw (eq-eqb _ _ (w 0 r (omega arith)), serve-none n l (λ i d k. w (suc i) d (omega arith)))
+module _ (p : RunRow → Bool) where
+  pub serve-none : (n : ℕ) (l : List RunRow) → AllRest p n l → serveIn p n l ≡ l
+  unfolding serveIn
+  serve-none zero l w = refl
+  serve-none (suc n) [] w = refl
+  serve-none (suc n) (r ∷ l) w = rw (w 0 r (omega arith), serve-none n l (λ i d k. w (suc i) d (omega arith)))
 
-pub serve-at : (n f : ℕ) (l : List RunRow) (d : RunRow) → f < n → f < length l → AllIdle f l → (getD l f d .left ≡ 0 → ⊥) → serveIn n l ≡ set l f (servedOf (getD l f d))
-unfolding serveIn
-serve-at zero f l d h k w b = absurd (omega arith)
-serve-at (suc n) f [] d h k w b = absurd (omega arith)
-serve-at (suc n) zero (r ∷ l) d h k w b = rw (ne-eqb _ _ b)
-serve-at (suc n) (suc f) (r ∷ l) d h k w b = rw (eq-eqb _ _ (w 0 r (omega arith)), serve-at n f l d (omega arith) (omega arith) (λ i d k. w (suc i) d (omega arith)) b)
+  pub serve-at : (n f : ℕ) (l : List RunRow) (d : RunRow) → f < n → f < length l → AllRest p f l → p (getD l f d) ≡ true → serveIn p n l ≡ set l f (servedOf (getD l f d))
+  unfolding serveIn
+  serve-at zero f l d h k w b = absurd (omega arith)
+  serve-at (suc n) f [] d h k w b = absurd (omega arith)
+  serve-at (suc n) zero (r ∷ l) d h k w b = rw b
+  serve-at (suc n) (suc f) (r ∷ l) d h k w b = rw (w 0 r (omega arith), serve-at n f l d (omega arith) (omega arith) (λ i d k. w (suc i) d (omega arith)) b)

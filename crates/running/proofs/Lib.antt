@@ -2,7 +2,10 @@ pub mod ThreeSteps
 pub mod Turns
 pub mod Stepped
 pub mod Found
+pub mod Elements
 pub mod EachRow
+pub mod HeldRow
+pub mod Front
 pub mod Ahead
 pub mod Going
 pub mod Firsts

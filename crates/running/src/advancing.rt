@@ -1,10 +1,13 @@
 // Many slots of a run in one call.
 ghost use mathlib.Core.Path.{_≡_};
-ghost use mathlib.Core.Bool.{cond};
 ghost use Prim.Native.Nat.{_≤_};
 ghost use lib.Dec.{eqb};
-ghost use Rattle.rules.specs.RunState.{dueIn};
+ghost use mathlib.Core.Bool.{true, cond};
+ghost use Rattle.rules.specs.RunState.{dueIn, usedRows, oneHold};
 ghost use Rattle.rules.specs.Run.{slotsOf, advancedOf};
+use super::holder::first_after;
+use super::holder::first_now;
+use super::holder::holder;
 use super::lapses::lapse_of;
 use super::slots::not_run_state;
 use rules::ROWS;
@@ -35,21 +38,25 @@ fn looks(clock: u32, until: u32, count: usize) -> usize
 }
 
 // The slots one after the other, each in the three steps of document 01, without a look at every row in each. Nothing is released
-// before the clock value `due`, nothing lapses before `lapse`, nor at a row before its own value in `lapses`, and no row before
-// `first` has work. A clock value that is reached is the farthest of all from the next slot on, so that each row looked at brings it
-// nearer. One body over the local rows, so that no run is copied within the loop. Each step is a loop over as many rows as it needs,
-// none where nothing falls: what follows a loop is proved once, what follows an `if` once for each way through it.
+// before the clock value `due`, nothing lapses before `lapse`, nor at a row before its own value in `lapses`. A row in its hold is
+// the row `first`, and where there is none, no row before `first` has work: so the first with work from there on gets the slot. A
+// clock value that is reached is the farthest of all from the next slot on, so that each row looked at brings it nearer. One body
+// over the local rows, so that no run is copied within the loop. Each step is a loop over as many rows as it needs, none where
+// nothing falls: what follows a loop is proved once, what follows an `if` once for each way through it. The job of a hold of 1 that has more
+// work than a unit, the common case, has a way of its own.
 fn advance_rows(run: Run, stolen: &[u8]) -> Run
-    requires { ⌜ run .count ≤ 64 ⌝ }
+    requires { ⌜ (run .count ≤ 64) × (oneHold (usedRows run) ≡ true) ⌝ }
     ensures { λ r. ⌜ r ≡ slotsOf run (now (stolen .entry)) ⌝ }
 {
+    let held = holder(run);
     let count = run.count;
     let mut rows = run.rows;
     let mut clock = run.clock;
     let mut lapses = [clock; ROWS];
     let mut due = clock;
     let mut lapse = clock;
-    let mut first: usize = 0;
+    let mut holding = held < count;
+    let mut first = if holding { held } else { 0 };
     let mut k: usize = 0;
     'slots: while k < stolen.len() {
         let after = std::num::wrapping_add_u32(clock, 1);
@@ -66,7 +73,7 @@ fn advance_rows(run: Run, stolen: &[u8]) -> Run
             let own = lapse_of(clock, r);
             lapses[i] = own;
             lapse = nearer(clock, lapse, own);
-            first = if i < first { i } else { first };
+            first = first_now(holding, first, i);
         }
         let mut seek = if stolen[k] == 0 { count } else { 0 };
         'serve: while first < seek {
@@ -76,7 +83,7 @@ fn advance_rows(run: Run, stolen: &[u8]) -> Run
                 continue;
             }
             seek = 0;
-            if 1 < row.left {
+            if (1 < row.left) & (row.planned.hold < 2) {
                 rows[first].left = row.left - 1;
                 continue;
             }
@@ -85,6 +92,11 @@ fn advance_rows(run: Run, stolen: &[u8]) -> Run
             let own = lapse_of(clock, s);
             lapses[first] = own;
             lapse = nearer(clock, lapse, own);
+            if holding | (1 < row.left) {
+                let held = stepping::in_hold(s);
+                first = first_after(holding, held, first);
+                holding = held;
+            }
         }
         let looked = looks(clock, lapse, count);
         'age: for i in 0..looked {

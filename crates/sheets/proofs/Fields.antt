@@ -9,6 +9,7 @@ use native.Mathlib.Numerals.{add-one}
 use borrow.Author.Tests.{lt-ltb, le-ltb, eq-eqb, ne-eqb}
 use lib.ListN.{length, drop, getD, drop-of-length-le}
 use lib.Seq.{drop-cons}
+use Rattle.rules.specs.declared.ObjectRow.{ObjectRow}
 use Rattle.rules.specs.Sheet.{isDigit, numberFrom, stopped, fieldEnd, readField, readLine}
 use Rattle.rules.proofs.Digits.{digit-in, number-grows}
 use Rattle.sheets.specs.declared.reading.Field.{Field}
@@ -87,21 +88,28 @@ module _ (s : List ℕ) (at : ℕ) where
     line-without-cost e = rw (e₁, e)
 
     module _ {c : ℕ} {s₂ : List ℕ} (e₂ : readField 4294967295 44 s₁ ≡ some (c, s₂)) where
-      pub line-without-validity : readField 4294967295 13 s₂ ≡ none → readLine (drop at s) ≡ none
+      pub line-without-validity : readField 4294967295 44 s₂ ≡ none → readLine (drop at s) ≡ none
       line-without-validity e = rw (e₁, e₂, e)
 
-      module _ {v : ℕ} (end : ℕ) (e₃ : readField 4294967295 13 s₂ ≡ some (v, drop end s)) where
-        line-ends : readLine (drop at s) ≡ stopped 10 (record { id = i; cost = c; validity = v }) (drop end s)
-        line-ends = rw (e₁, e₂, e₃)
+      module _ {v : ℕ} {s₃ : List ℕ} (e₃ : readField 4294967295 44 s₂ ≡ some (v, s₃)) where
+        pub line-without-hold : readField 4294967295 13 s₃ ≡ none → readLine (drop at s) ≡ none
+        line-without-hold e = rw (e₁, e₂, e₃, e)
 
-        pub line-short : length s ≤ end → readLine (drop at s) ≡ none
-        line-short h = line-ends ∙ stopped-end s end 10 (record { id = i; cost = c; validity = v }) h
+        module _ {h : ℕ} (end : ℕ) (e₄ : readField 4294967295 13 s₃ ≡ some (h, drop end s)) where
+          abbrev row : ObjectRow
+          row = record { id = i; cost = c; validity = v; hold = h }
 
-        pub line-other : end < length s → (getD s end 0 ≡ 10 → ⊥) → readLine (drop at s) ≡ none
-        line-other h n = line-ends ∙ stopped-other s end 10 (record { id = i; cost = c; validity = v }) h n
+          line-ends : readLine (drop at s) ≡ stopped 10 row (drop end s)
+          line-ends = rw (e₁, e₂, e₃, e₄)
 
-        pub line-whole : end < length s → getD s end 0 ≡ 10 → readLine (drop at s) ≡ some (record { id = i; cost = c; validity = v }, drop (end + 1) s)
-        line-whole h e = line-ends ∙ stopped-here s end 10 (record { id = i; cost = c; validity = v }) h e
+          pub line-short : length s ≤ end → readLine (drop at s) ≡ none
+          line-short n = line-ends ∙ stopped-end s end 10 row n
+
+          pub line-other : end < length s → (getD s end 0 ≡ 10 → ⊥) → readLine (drop at s) ≡ none
+          line-other n o = line-ends ∙ stopped-other s end 10 row n o
+
+          pub line-whole : end < length s → getD s end 0 ≡ 10 → readLine (drop at s) ≡ some (record { id = i; cost = c; validity = v; hold = h }, drop (end + 1) s)
+          line-whole n e = line-ends ∙ stopped-here s end 10 row n e
 
 -- ── The walk over the digits ──
 

@@ -52,13 +52,13 @@ module _ {s₀ : List ℕ} {at x : ℕ} {s : List ℕ} {y i : ℕ} (p : Putting 
 
 -- ── Lines ──
 
-pub line-length : (r : ObjectRow) → length (lineBytes r) ≡ length (decimal (r .id)) + length (decimal (r .cost)) + length (decimal (r .validity)) + 4
+pub line-length : (r : ObjectRow) → length (lineBytes r) ≡ length (decimal (r .id)) + length (decimal (r .cost)) + length (decimal (r .validity)) + length (decimal (r .hold)) + 5
 line-length r = simp length-append (omega arith)
 
 pub field-length : (x stop : ℕ) → length (fieldBytes x stop) ≡ length (decimal x) + 1
 field-length x stop = length-append (decimal x) (stop ∷ [])
 
-pub line-fields : (r : ObjectRow) → length (lineBytes r) ≡ length (fieldBytes (r .id) 44) + (length (fieldBytes (r .cost) 44) + (length (fieldBytes (r .validity) 13) + 1))
+pub line-fields : (r : ObjectRow) → length (lineBytes r) ≡ length (fieldBytes (r .id) 44) + (length (fieldBytes (r .cost) 44) + (length (fieldBytes (r .validity) 44) + (length (fieldBytes (r .hold) 13) + 1)))
 line-fields r = simp length-append
 
 -- what was put changes no length

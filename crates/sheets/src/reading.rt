@@ -105,16 +105,20 @@ fn read_line(bytes: &[u8], at: usize) -> Line
     requires { ⌜ at ≤ length (now bytes) ⌝ }
     ensures { λ r. ⌜ LineAt (now (bytes .entry)) at (readLine (drop at (now (bytes .entry)))) r ⌝ }
 {
-    let first = read_field(bytes, at, MOST_ID, b',');
-    let Field::Found(id, second) = first else {
+    let id_field = read_field(bytes, at, MOST_ID, b',');
+    let Field::Found(id, second) = id_field else {
         return Line::Bad;
     };
-    let middle = read_field(bytes, second, MOST_NUMBER, b',');
-    let Field::Found(cost, third) = middle else {
+    let cost_field = read_field(bytes, second, MOST_NUMBER, b',');
+    let Field::Found(cost, third) = cost_field else {
         return Line::Bad;
     };
-    let last = read_field(bytes, third, MOST_NUMBER, b'\r');
-    let Field::Found(validity, end) = last else {
+    let validity_field = read_field(bytes, third, MOST_NUMBER, b',');
+    let Field::Found(validity, fourth) = validity_field else {
+        return Line::Bad;
+    };
+    let hold_field = read_field(bytes, fourth, MOST_NUMBER, b'\r');
+    let Field::Found(hold, end) = hold_field else {
         return Line::Bad;
     };
     if bytes.len() <= end {
@@ -127,6 +131,7 @@ fn read_line(bytes: &[u8], at: usize) -> Line
         id: id as u16,
         cost,
         validity,
+        hold,
     };
     Line::Read(row, end + 1)
 }

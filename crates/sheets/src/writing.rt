@@ -26,12 +26,13 @@ fn width(x: u32) -> usize
 
 // How many bytes the line of a row has. That they are few is said for the callers.
 fn line_size(row: ObjectRow) -> usize
-    ensures { λ r. ⌜ (r ≡ length (lineBytes row)) × (r ≤ 12884901892) ⌝ }
+    ensures { λ r. ⌜ (r ≡ length (lineBytes row)) × (r ≤ 17179869189) ⌝ }
 {
     let id = width(row.id as u32);
     let cost = width(row.cost);
     let validity = width(row.validity);
-    id + cost + validity + 4
+    let hold = width(row.hold);
+    id + cost + validity + hold + 5
 }
 
 // How many bytes the lines of the first `count` rows have.
@@ -80,7 +81,8 @@ fn put_line(buffer: &mut [u8], at: usize, row: ObjectRow) -> usize
 {
     let second = put_field(buffer, at, row.id as u32, b',');
     let third = put_field(buffer, second, row.cost, b',');
-    let end = put_field(buffer, third, row.validity, b'\r');
+    let fourth = put_field(buffer, third, row.validity, b',');
+    let end = put_field(buffer, fourth, row.hold, b'\r');
     buffer[end] = b'\n';
     end + 1
 }
@@ -96,7 +98,7 @@ fn put_lines(buffer: &mut [u8], rows: [ObjectRow; ROWS], count: usize)
     }
 }
 
-// The sheet at the start of the buffer: how many bytes it takes, or 4, 7, 8, 9, then 16, and the buffer is untouched.
+// The sheet at the start of the buffer: how many bytes it takes, or 4, 7, 6, 8, 9, then 16, and the buffer is untouched.
 pub fn export(table: Table, buffer: &mut [u8]) -> Written
     ensures { λ r. ⌜ (now (buffer .exit) ≡ sheetAfter table (now (buffer .entry))) × (r ≡ exportedOf table (length (now (buffer .entry)))) ⌝ }
 {

@@ -1,14 +1,14 @@
--- A condition on all rows, or on all ids, looked at from the front: one turn of the loop, and the end. Assumes nothing.
+-- A condition on all rows, on their holds, or on all ids, looked at from the front: one turn of the loop, and the end. Assumes nothing.
 use Prim.Native.Nat.{ℕ, _+_, _≤_, _<_}
-use mathlib.Core.Path.{_≡_}
-use mathlib.Core.Bool.{Bool, true, not, _&&_}
+use mathlib.Core.Path.{_≡_, refl}
+use mathlib.Core.Bool.{Bool, true, false, not, _&&_, _||_}
 use mathlib.Core.List.{List, map, map-append}
 use native.Mathlib.Numerals.{add-one}
 use lib.Dec.{eqb}
 use lib.ListN.{length, take, drop, getD, set, drop-of-length-le}
 use lib.Seq.{drop-cons, take-suc, take-suc-set}
 use Rattle.rules.specs.declared.RunRow.{RunRow}
-use Rattle.rules.specs.RunState.{every, idOf, notIn, distinct}
+use Rattle.rules.specs.RunState.{every, rowOk, idOf, notIn, distinct, inHold, any, oneHold}
 use Rattle.stepping.proofs.Lists.{next-of, end-of}
 use Rattle.rules.proofs.Tests.{and-assoc, and-true}
 
@@ -22,15 +22,51 @@ pub every-end : (p : RunRow → Bool) (l : List RunRow) (ok : Bool) (i : ℕ) �
 unfolding every
 every-end p l ok i h = rw (drop-of-length-le l h, and-true)
 
--- of the first n rows
-module _ (rows : List RunRow) (n : ℕ) (h : n ≤ length rows) where
-  pub used-turn : (p : RunRow → Bool) (ok : Bool) (i : ℕ) (d : RunRow) → i < n → ok && p (getD rows i d) && every p (drop (i + 1) (take n rows)) ≡ ok && every p (drop i (take n rows))
-  unfolding every
-  used-turn p ok i d k = rw (next-of rows n h i d k, and-assoc)
+-- ── All rows in use, and their holds ──
 
-  pub used-end : (p : RunRow → Bool) (ok : Bool) (i : ℕ) → n ≤ i → ok && every p (drop i (take n rows)) ≡ ok
-  unfolding every
-  used-end p ok i k = rw (end-of rows n h i k, and-true)
+-- what the rows that are left have to meet, a row before them being in its hold or none
+abbrev pub inOrder : ℕ → Bool → List RunRow → Bool
+inOrder clock holding l = every (rowOk clock) l && (not (holding && any inHold l) && oneHold l)
+
+-- one row more: its own conditions, and whether it is a second one in its hold
+one-more : (ok r h t e a o : Bool) → ok && (r && not (h && t)) && (e && (not ((h || t) && a) && o)) ≡ ok && (r && e && (not (h && (t || a)) && (not (t && a) && o)))
+one-more false r h t e a o = refl
+one-more true false h t e a o = refl
+one-more true true true true true a o = refl
+one-more true true true true false a o = refl
+one-more true true true false e a o = refl
+one-more true true false true e a o = refl
+one-more true true false false e a o = refl
+
+or-assoc : (a b c : Bool) → a || b || c ≡ a || (b || c)
+or-assoc true b c = refl
+or-assoc false b c = refl
+
+module _ (rows : List RunRow) (n : ℕ) (h : n ≤ length rows) (holding : Bool) (i : ℕ) where
+  pub order-turn : (clock : ℕ) (ok : Bool) (d : RunRow) → i < n → ok && (rowOk clock (getD rows i d) && not (holding && inHold (getD rows i d))) && inOrder clock (holding || inHold (getD rows i d)) (drop (i + 1) (take n rows)) ≡ ok && inOrder clock holding (drop i (take n rows))
+  unfolding every any oneHold
+  order-turn clock ok d k = rw (next-of rows n h i d k, one-more ok (rowOk clock (getD rows i d)) holding (inHold (getD rows i d)))
+
+  pub order-end : (clock : ℕ) (ok : Bool) → n ≤ i → ok && inOrder clock holding (drop i (take n rows)) ≡ ok
+  unfolding every any oneHold
+  order-end clock ok k = rw (end-of rows n h i k) (by-holding holding)
+    where
+      by-holding : (b : Bool) → ok && (not (b && false) && true) ≡ ok
+      by-holding true = and-true ok
+      by-holding false = and-true ok
+
+  -- whether any is in its hold
+  pub any-turn : (d : RunRow) → i < n → holding || inHold (getD rows i d) || any inHold (drop (i + 1) (take n rows)) ≡ holding || any inHold (drop i (take n rows))
+  unfolding any
+  any-turn d k = rw (next-of rows n h i d k, or-assoc)
+
+  pub any-end : n ≤ i → holding || any inHold (drop i (take n rows)) ≡ holding
+  unfolding any
+  any-end k = rw (end-of rows n h i k) (by-holding holding)
+    where
+      by-holding : (b : Bool) → b || false ≡ b
+      by-holding true = refl
+      by-holding false = refl
 
 -- ── The ids ──
 

@@ -1,23 +1,23 @@
 -- What one slot does to one row, as the code does it: the three steps at the row before the next row is looked at. Assumes nothing.
 use Prim.Native.Nat.{ℕ}
 use mathlib.Core.Path.{_≡_}
-use mathlib.Core.Bool.{Bool, true, false, cond, not, _&&_, _||_}
+use mathlib.Core.Bool.{Bool, true, cond, not, _&&_, _||_}
 use lib.Dec.{eqb, leb, ltb}
 use Rattle.rules.specs.declared.RunRow.{RunRow}
 use Rattle.rules.specs.RunState.{ageOf, storedOk}
-use Rattle.rules.specs.Run.{tick, releasedOf, servedOf, agedStored, agedOf}
+use Rattle.rules.specs.Run.{tick, releasedOf, servedOf, mayWork, agedStored, agedOf}
 
--- step 2 at a row, the core being free or not when its turn comes
-unfoldable pub workedOf : Bool → RunRow → RunRow
-workedOf free row = cond (eqb (row .left) 0) row (cond free (servedOf row) row)
+-- step 2 at a row, a row being in its hold or none, and the core being free or not when the row's turn comes
+unfoldable pub workedOf : Bool → Bool → RunRow → RunRow
+workedOf holding free row = cond (mayWork holding row) (cond free (servedOf row) row) row
 
 -- the three steps at a row; the third is at the clock that has moved on
-unfoldable pub passedOf : ℕ → Bool → RunRow → RunRow
-passedOf clock free row = agedOf (tick clock) (workedOf free (releasedOf clock row))
+unfoldable pub passedOf : ℕ → Bool → Bool → RunRow → RunRow
+passedOf clock holding free row = agedOf (tick clock) (workedOf holding free (releasedOf clock row))
 
 -- whether the core is still free behind the row, once its release is done
-unfoldable pub stillFree : Bool → RunRow → Bool
-stillFree free row = cond (eqb (row .left) 0) free false
+unfoldable pub stillFree : Bool → Bool → RunRow → Bool
+stillFree holding free row = free && not (mayWork holding row)
 
 -- a row that is not due, with no work, or with work that neither gets the slot nor lapses, and with no stored value that lapses:
 -- `proofs/OneRow` shows that the slot leaves such a row and the core as they are

@@ -1,7 +1,7 @@
 // Whether a run state is acceptable, condition by condition.
 ghost use mathlib.Core.Path.{_≡_};
 ghost use lib.ListN.{take};
-ghost use Rattle.rules.specs.RunState.{planOk, storedOk, rowOk, isEmpty, rowNone, distinct, acceptable};
+ghost use Rattle.rules.specs.RunState.{planOk, storedOk, rowOk, isEmpty, rowNone, distinct, inHold, acceptable};
 use super::rows::age;
 use super::rows::due_in;
 use rules::PlanRow;
@@ -19,6 +19,7 @@ fn plan_ok(p: PlanRow) -> bool
         & (p.deadline <= p.period)
         & (sum == p.validity as u64)
         & (p.validity <= rules::MOST)
+        & rules::hold_ok(p.cost, p.hold)
 }
 
 // A held sample is younger than the validity.
@@ -67,6 +68,7 @@ pub fn row_none(row: RunRow) -> bool
     (p.id == 0)
         & (p.cost == 0)
         & (p.validity == 0)
+        & (p.hold == 0)
         & (p.deadline == 0)
         & (p.period == 0)
         & (row.next == 0)
@@ -75,6 +77,22 @@ pub fn row_none(row: RunRow) -> bool
         & !row.lapsed
         & none
         & (row.skips == 0)
+}
+
+// Whether the job in hand has done its first unit and not yet as many as its hold. A hold of 1 holds nothing and is the common
+// one: that test goes first.
+pub fn in_hold(row: RunRow) -> bool
+    ensures { λ r. ⌜ r ≡ inHold row ⌝ }
+{
+    let p = row.planned;
+    if p.hold < 2 {
+        return false;
+    }
+    if p.cost <= row.left {
+        return false;
+    }
+    let done = p.cost - row.left;
+    (row.left != 0) & (1 <= done) & (done < p.hold)
 }
 
 // Whether the first `count` ids differ. No early return, so that several ids are compared at once.
@@ -92,6 +110,7 @@ pub fn distinct(ids: [u16; ROWS], count: usize) -> bool
     ok
 }
 
+// A second row in its hold is as wrong as a row that is not in order.
 pub fn is_acceptable(run: Run) -> bool
     ensures { λ r. ⌜ r ≡ acceptable run ⌝ }
 {
@@ -102,10 +121,13 @@ pub fn is_acceptable(run: Run) -> bool
     }
     let mut ids = [0u16; ROWS];
     let mut ok = true;
+    let mut holding = false;
     'used: for i in 0..count {
         let row = run.rows[i];
         ids[i] = row.planned.id;
-        ok = ok & row_ok(clock, row);
+        let held = in_hold(row);
+        ok = ok & (row_ok(clock, row) & !(holding & held));
+        holding = holding | held;
     }
     'unused: for k in count..ROWS {
         ok = ok & row_none(run.rows[k]);

@@ -6,6 +6,7 @@ mod rows;
 pub const LAST: u32 = 4294967295;
 
 pub use acceptance::distinct;
+pub use acceptance::in_hold;
 pub use acceptance::is_acceptable;
 pub use acceptance::row_none;
 pub use acceptance::row_ok;

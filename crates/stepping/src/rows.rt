@@ -1,9 +1,10 @@
 // What one slot does to one row: release, service and ageing; and which rows it leaves as they are.
 ghost use mathlib.Core.Path.{_≡_};
 ghost use Rattle.rules.specs.RunState.{ageOf, dueIn};
-ghost use Rattle.rules.specs.Run.{releasedOf, servedOf, agedStored, agedOf};
+ghost use Rattle.rules.specs.Run.{releasedOf, servedOf, mayWork, agedStored, agedOf};
 ghost use Rattle.stepping.specs.OneRow.{workedOf, stillFree, unmoved};
 use super::LAST;
+use super::acceptance::in_hold;
 use super::acceptance::stored_ok;
 use rules::RunRow;
 use rules::Stored;
@@ -72,11 +73,18 @@ pub fn served(row: RunRow) -> RunRow
     }
 }
 
-// Step 2 at a row, the core being free or not when its turn comes.
-pub fn worked(free: bool, row: RunRow) -> RunRow
-    ensures { λ r. ⌜ r ≡ workedOf free row ⌝ }
+// Whether the row may get the slot: where a row is in its hold that one alone, otherwise each with work left.
+fn may_work(holding: bool, row: RunRow) -> bool
+    ensures { λ r. ⌜ r ≡ mayWork holding row ⌝ }
 {
-    if row.left == 0 {
+    if holding { in_hold(row) } else { row.left != 0 }
+}
+
+// Step 2 at a row, a row being in its hold or none, and the core being free or not when the row's turn comes.
+pub fn worked(holding: bool, free: bool, row: RunRow) -> RunRow
+    ensures { λ r. ⌜ r ≡ workedOf holding free row ⌝ }
+{
+    if !may_work(holding, row) {
         return row;
     }
     if free { served(row) } else { row }
@@ -124,14 +132,14 @@ pub fn aged(clock: u32, row: RunRow) -> RunRow
 }
 
 // Whether the core is still free behind the row, once its release is done.
-pub fn still_free(free: bool, row: RunRow) -> bool
-    ensures { λ r. ⌜ r ≡ stillFree free row ⌝ }
+pub fn still_free(holding: bool, free: bool, row: RunRow) -> bool
+    ensures { λ r. ⌜ r ≡ stillFree holding free row ⌝ }
 {
-    if row.left == 0 { free } else { false }
+    free & !may_work(holding, row)
 }
 
-// Where this is true, a slot at `clock` leaves the row and the core as they are, and nothing needs to be stored. One test after
-// the other, so that the three steps that follow where it is false go without the same tests.
+// Where this is true, a slot at `clock` leaves the row and the core as they are, whatever is in its hold, and nothing needs to be
+// stored. One test after the other, so that the three steps that follow where it is false go without the same tests.
 pub fn unmoved(clock: u32, free: bool, row: RunRow) -> bool
     ensures { λ r. ⌜ r ≡ unmoved clock free row ⌝ }
 {

@@ -15,7 +15,7 @@ ghost use mathlib.Core.Path.{_≡_};
 ghost use Prim.Native.Nat.{_+_, _*_, _≤_, _<_};
 ghost use lib.ListN.{length};
 ghost use Rattle.rules.specs.declared.Verdict.the-variants.{Accepted};
-ghost use Rattle.rules.specs.StoredTable.{noRow, padded, recordSize, le16, le32, trailerVerdict, countOf, recordsStart, rowOf, spareOf, recordsOf, readOf, readVerdict, doorOf, accepts, recordsPart, chosenPart, Chosen};
+ghost use Rattle.rules.specs.StoredTable.{noRow, padded, recordSize, le16, le32, trailerVerdict, countOf, recordsStart, rowOf, recordsOf, readOf, readVerdict, doorOf, accepts, recordsPart, chosenPart, Chosen};
 ghost use Rattle.tables.specs.Copied.{copiedOf, emptyOf, placed, checkedOf};
 
 // The trailer's bytes, a record's, and the most that a stored table may have.
@@ -104,7 +104,7 @@ fn records_start(bytes: &[u8]) -> usize
     size - read32(bytes, size - 8) as usize
 }
 
-// The object row of the record that begins at a place.
+// The object row of the record that begins at a place. The record stores the hold less one.
 fn row_at(bytes: &[u8], at: usize) -> ObjectRow
     requires { ⌜ at + recordSize ≤ length (now bytes) ⌝ }
     ensures { λ r. ⌜ r ≡ rowOf (now (bytes .entry)) at ⌝ }
@@ -113,6 +113,7 @@ fn row_at(bytes: &[u8], at: usize) -> ObjectRow
         id: read16(bytes, at),
         cost: read32(bytes, at + 4),
         validity: read32(bytes, at + 8),
+        hold: read16(bytes, at + 2) as u32 + 1,
     }
 }
 
@@ -131,20 +132,6 @@ fn rows_from(bytes: &[u8], start: usize, count: usize) -> [ObjectRow; ROWS]
     rows
 }
 
-// The spare fields of `count` records, and zeros after them.
-fn spares_from(bytes: &[u8], start: usize, count: usize) -> [u16; ROWS]
-    requires { ⌜ (count ≤ 64) × (start + recordSize * count ≤ length (now bytes)) ⌝ }
-    ensures { λ r. ⌜ r ≡ padded count 0 (recordsOf spareOf (now (bytes .entry)) start count) ⌝ }
-{
-    let mut spares = [0u16; ROWS];
-    let mut n = 0;
-    while n < count {
-        spares[n] = read16(bytes, start + RECORD * n + 2);
-        n += 1;
-    }
-    spares
-}
-
 // The first door: a stored table, or the refusal with an empty table.
 pub fn read(bytes: &[u8]) -> ReadTable
     ensures { λ r. ⌜ r ≡ readOf (now (bytes .entry)) ⌝ }
@@ -156,10 +143,7 @@ pub fn read(bytes: &[u8]) -> ReadTable
     let count = records_count(bytes);
     let start = records_start(bytes);
     let rows = rows_from(bytes, start, count);
-    let spares = spares_from(bytes, start, count);
-    let table = Table { count, rows };
-    let verdict = rules::check_records(spares, table);
-    rules::answer(verdict, table)
+    rules::check_answer(Table { count, rows })
 }
 
 // A table of `count` rows of which none is copied yet.
@@ -202,7 +186,7 @@ fn copy_rows(rows: &[ObjectRow]) -> Table
     t
 }
 
-// Checks 4, 7, 8, 9 on what was copied.
+// Checks 4, 7, 6, 8, 9 on what was copied.
 fn check_copied(table: Table) -> ReadTable
     ensures { λ r. ⌜ r ≡ checkedOf table ⌝ }
 {

@@ -1,10 +1,12 @@
 // Writing a table: n records and the trailer, without gap, into a lent buffer. Each byte is put by `put16`, and nothing beyond what
 // is told is touched.
 ghost use mathlib.Core.Path.{_≡_};
+ghost use mathlib.Core.List.{[]};
 ghost use Prim.Native.Nat.{_+_, _*_, _≤_};
 ghost use lib.ListN.{length, take};
 ghost use lib.Seq.{sets};
-ghost use Rattle.rules.specs.StoredTable.{recordSize, trailerSize};
+ghost use Rattle.rules.specs.declared.Verdict.the-variants.{Accepted};
+ghost use Rattle.rules.specs.StoredTable.{recordSize, trailerSize, mostHold, checksFrom};
 ghost use Rattle.rules.specs.Writing.{bytes16, bytes32, recordBytes, recordsBytes, trailerBytes, writtenOf, bufferAfter};
 use super::MARK;
 use super::RECORD;
@@ -34,13 +36,13 @@ fn put32(buffer: &mut [u8], at: usize, x: u32)
     put16(buffer, at + 2, (x / 65536) as u16);
 }
 
-// The record of an object at `at`.
+// The record of an object at `at`. Its two bytes for the hold less one are enough for a hold that passed check 6.
 fn put_record(buffer: &mut [u8], at: usize, row: ObjectRow)
-    requires { ⌜ at + recordSize ≤ length (now buffer) ⌝ }
+    requires { ⌜ (at + recordSize ≤ length (now buffer)) × (1 ≤ row .hold) × (row .hold ≤ mostHold) ⌝ }
     ensures { λ _. ⌜ now (buffer .exit) ≡ sets (now (buffer .entry)) at (recordBytes row) ⌝ }
 {
     put16(buffer, at, row.id);
-    put16(buffer, at + 2, 0);
+    put16(buffer, at + 2, (row.hold - 1) as u16);
     put32(buffer, at + 4, row.cost);
     put32(buffer, at + 8, row.validity);
 }
@@ -55,9 +57,9 @@ fn put_trailer(buffer: &mut [u8], at: usize, count: usize)
     put16(buffer, at + 6, MARK);
 }
 
-// The records of the first `count` rows, from the start of the buffer on.
+// The records of the first `count` rows, which passed the checks, from the start of the buffer on.
 fn put_records(buffer: &mut [u8], rows: [ObjectRow; ROWS], count: usize)
-    requires { ⌜ (count ≤ 64) × (recordSize * count ≤ length (now buffer)) ⌝ }
+    requires { ⌜ (count ≤ 64) × (recordSize * count ≤ length (now buffer)) × (checksFrom 0 [] (take count rows) ≡ Accepted) ⌝ }
     ensures { λ _. ⌜ now (buffer .exit) ≡ sets (now (buffer .entry)) 0 (recordsBytes (take count rows)) ⌝ }
 {
     for i in 0..count {
@@ -65,7 +67,7 @@ fn put_records(buffer: &mut [u8], rows: [ObjectRow; ROWS], count: usize)
     }
 }
 
-// The table at the start of the buffer: how many bytes it takes, or 4, 7, 8, 9, then 16, and the buffer is untouched.
+// The table at the start of the buffer: how many bytes it takes, or 4, 7, 6, 8, 9, then 16, and the buffer is untouched.
 pub fn write(table: Table, buffer: &mut [u8]) -> Written
     ensures { λ r. ⌜ (now (buffer .exit) ≡ bufferAfter table (now (buffer .entry))) × (r ≡ writtenOf table (length (now (buffer .entry)))) ⌝ }
 {

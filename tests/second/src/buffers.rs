@@ -1,6 +1,6 @@
 //! Tables, good and bad, written into lent buffers of any length: what is the same for all that writes tables.
 
-use paper::tables::{ObjectRow, Refusal, MOST_OBJECTS};
+use paper::tables::{ObjectRow, Refusal, MOST_HOLD, MOST_OBJECTS};
 
 use crate::generate::handed_in;
 use crate::random::Random;
@@ -38,12 +38,14 @@ impl Writer {
         for class in TOO_SMALL {
             tally.expect(format!("refusal 16 with {class}"), 1000);
         }
-        for number in [4, 7, 8, 9] {
+        for number in [4, 6, 7, 8, 9] {
             tally.expect(format!("refusal {number}"), 500);
             tally.expect(format!("refusal {number}, before a buffer too small"), 100);
         }
         tally.expect("written with 64 objects", 1000);
         tally.expect("written with rows beyond the count that are not zero", 1000);
+        tally.expect("written with holds above 1", 1000);
+        tally.expect("written with a hold of 65,536", 1000);
     }
 
     /// A table, good or bad, is written to a buffer of any length; what was written is read, and has the same rows.
@@ -95,6 +97,13 @@ fn buffer(random: &mut Random, needed: usize) -> Vec<u8> {
 
 fn tell_written(count: usize, rows: &[ObjectRow], tally: &mut Tally) {
     tally.add("written with 64 objects", u64::from(count == MOST_OBJECTS));
+    let used = &rows[..count];
+    tally.add(
+        "written with holds above 1",
+        u64::from(used.iter().any(|row| row.hold > 1)),
+    );
+    let longest = used.iter().any(|row| row.hold == MOST_HOLD);
+    tally.add("written with a hold of 65,536", u64::from(longest));
     let beyond = rows[count..].iter().any(|row| *row != ObjectRow::default());
     tally.add(
         "written with rows beyond the count that are not zero",

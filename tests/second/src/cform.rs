@@ -32,6 +32,7 @@ pub fn object_row(row: &ObjectRow) -> ffi::ObjectRow {
         id: row.id,
         cost: row.cost,
         validity: row.validity,
+        hold: row.hold,
     }
 }
 
@@ -40,6 +41,7 @@ pub fn plan_row(row: &PlanRow) -> ffi::PlanRow {
         id: row.id,
         cost: row.cost,
         validity: row.validity,
+        hold: row.hold,
         deadline: row.deadline,
         period: row.period,
     }
@@ -202,6 +204,7 @@ fn state_row(row: &ffi::RunRow) -> StateRow {
             id: row.planned.id,
             cost: row.planned.cost,
             validity: row.planned.validity,
+            hold: row.planned.hold,
             deadline: row.planned.deadline,
             period: row.planned.period,
         },

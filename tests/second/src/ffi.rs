@@ -1,6 +1,7 @@
 //! The C interface, channelfox.h, as Rust sees it. The only file with unsafe code.
 
 use std::fmt::{self, Debug, Formatter};
+use std::mem::size_of;
 
 /// The rows of a table, a plan and a run: CHANNELFOX_ROWS.
 pub const ROWS: usize = 64;
@@ -32,6 +33,7 @@ pub struct ObjectRow {
     pub id: u16,
     pub cost: u32,
     pub validity: u32,
+    pub hold: u32,
 }
 
 #[repr(C)]
@@ -47,6 +49,7 @@ pub struct PlanRow {
     pub id: u16,
     pub cost: u32,
     pub validity: u32,
+    pub hold: u32,
     pub deadline: u32,
     pub period: u32,
 }
@@ -122,6 +125,9 @@ pub struct Written {
     pub verdict: Verdict,
     pub size: usize,
 }
+
+// The sizes that channelfox.h tells of these.
+const _: () = assert!(size_of::<ObjectRow>() == 16 && size_of::<PlanRow>() == 24 && size_of::<RunRow>() == 52);
 
 impl Default for Table {
     fn default() -> Table {
@@ -261,6 +267,7 @@ pub fn rows(rows: &[ObjectRow]) -> Result<ReadAnswer, LentChanged> {
         id: 0xA5A5,
         cost: 1,
         validity: 2,
+        hold: 1,
     };
     // Safety: the pointer goes with its length, and the rows outlive the call.
     lend(rows, margin, |at, length| unsafe { channelfox_rows(at, length) })

@@ -2,7 +2,7 @@
 
 use paper::planning::{plan, PlanRow};
 use paper::states::{RunState, StateRow, Stored};
-use paper::tables::{ObjectRow, MOST_OBJECTS};
+use paper::tables::{holds, ObjectRow, MOST_HOLD, MOST_OBJECTS};
 
 use crate::random::Random;
 
@@ -19,7 +19,7 @@ pub enum Times {
     Long,
     /// Few different validities and costs, so that many are tied.
     Tied,
-    /// Costs and validities at the ends of their ranges.
+    /// Costs and validities at the ends of their ranges, and costs near the longest hold.
     Ends,
 }
 
@@ -71,14 +71,28 @@ pub fn object_rows(random: &mut Random, count: usize, times: Times) -> Vec<Objec
             with_load(random, &validities)
         }
     };
-    ids.iter()
-        .zip(times)
-        .map(|(id, (cost, validity))| ObjectRow {
-            id: *id,
-            cost: cost as u32,
-            validity: validity as u32,
-        })
-        .collect()
+    let plain = |(id, (cost, validity)): (&u16, (usize, usize))| ObjectRow::plain(*id, cost as u32, validity as u32);
+    let mut rows: Vec<ObjectRow> = ids.iter().zip(times).map(plain).collect();
+    give_holds(random, &mut rows);
+    rows
+}
+
+/// Good holds: in many tables 1 everywhere, in the others few or many, short ones or the longest that the cost allows.
+fn give_holds(random: &mut Random, rows: &mut [ObjectRow]) {
+    let kind = random.below(10);
+    for row in rows {
+        let most = *holds(row.cost).end();
+        let any = random.words(1, most);
+        row.hold = match kind {
+            0..=2 => 1,
+            3 => random.pick(&[1, 1, 1, 1, any]),
+            4 | 5 => random.words(1, 3).min(most),
+            6 => random.words(1, most.div_ceil(2)),
+            7 => any,
+            8 => most,
+            _ => random.pick(&[1, most - most / 2, most.max(2) - 1, most]),
+        };
+    }
 }
 
 fn validities(random: &mut Random, count: usize, times: Times) -> Vec<usize> {
@@ -121,10 +135,12 @@ fn tied(random: &mut Random, count: usize) -> Vec<(usize, usize)> {
         .collect()
 }
 
+const COSTS_AT_THE_ENDS: [usize; 9] = [1, 2, 65_535, 65_536, 65_537, 500_000, 500_001, MILLION - 1, MILLION];
+
 fn at_the_ends(random: &mut Random, count: usize) -> Vec<(usize, usize)> {
     (0..count)
         .map(|_| {
-            let cost = random.pick(&[1, 2, 500_000, 500_001, MILLION - 1, MILLION]);
+            let cost = random.pick(&COSTS_AT_THE_ENDS);
             (cost, random.pick(&[2, 3, MILLION - 1, MILLION]))
         })
         .collect()
@@ -134,9 +150,10 @@ fn at_the_ends(random: &mut Random, count: usize) -> Vec<(usize, usize)> {
 pub fn spoil_rows(random: &mut Random, rows: &mut [ObjectRow]) {
     let mut at = place(random, rows.len());
     for _ in 0..random.between(1, 3) {
-        match random.below(3) {
+        match random.below(4) {
             0 => rows[at].cost = bad_cost(random),
             1 => rows[at].validity = bad_validity(random),
+            2 => rows[at].hold = bad_hold(random, &rows[at]),
             _ => rows[at].id = rows[place(random, rows.len())].id,
         }
         if random.one_in(2) {
@@ -168,6 +185,22 @@ pub fn bad_validity(random: &mut Random) -> u32 {
     random.pick(&[0, 1, 1_000_001, u32::MAX, any])
 }
 
+/// A hold that this row must not have. Some of them are its good hold to those who keep only 16 bits of it.
+pub fn bad_hold(random: &mut Random, row: &ObjectRow) -> u32 {
+    let most = row.cost.min(MOST_HOLD);
+    let any = random.words(most + 1, u32::MAX);
+    random.pick(&[
+        0,
+        0,
+        most + 1,
+        most + 1,
+        MOST_HOLD + 1,
+        MOST_HOLD + row.hold.clamp(1, MOST_HOLD),
+        u32::MAX,
+        any,
+    ])
+}
+
 /// A count that no table has. Some of them are a good count to those who keep only 32 or 16 bits of it.
 pub fn bad_count(random: &mut Random, good: usize) -> usize {
     let any = random.between(65, usize::MAX - 1);
@@ -180,6 +213,7 @@ pub fn garbage_row(random: &mut Random) -> ObjectRow {
         id: random.pick(&[0, 1, 2, 255]),
         cost: random.pick(&[0, 1, u32::MAX]),
         validity: random.pick(&[0, 2, 10, u32::MAX]),
+        hold: random.pick(&[0, 1, 2, MOST_HOLD, u32::MAX]),
     }
 }
 
@@ -211,10 +245,31 @@ pub fn handed_in(random: &mut Random) -> (usize, Vec<ObjectRow>) {
 pub fn planned_rows(random: &mut Random, count: usize) -> (Vec<ObjectRow>, Vec<PlanRow>) {
     loop {
         let times = random.pick(&[Times::Short, Times::Short, Times::Middle, Times::Tied]);
-        let rows = object_rows(random, count, times);
+        let mut rows = object_rows(random, count, times);
+        if random.one_in(2) {
+            lengthen_holds(random, &mut rows);
+        }
         if let Ok(planned) = plan(count, &rows) {
             return (rows, planned);
         }
+    }
+}
+
+/// Gives some rows the longest hold with which they can still be planned, or some hold up to that.
+fn lengthen_holds(random: &mut Random, rows: &mut [ObjectRow]) {
+    for _ in 0..random.between(1, 4) {
+        let at = random.below(rows.len());
+        let (mut good, mut bad) = (1, rows[at].cost.min(MOST_HOLD) + 1);
+        while bad - good > 1 {
+            let middle = good + (bad - good) / 2;
+            rows[at].hold = middle;
+            match plan(rows.len(), rows) {
+                Ok(_) => good = middle,
+                Err(_) => bad = middle,
+            }
+        }
+        let any = random.words(1, good);
+        rows[at].hold = random.pick(&[good, good, any]);
     }
 }
 
@@ -292,7 +347,30 @@ pub fn run_state(random: &mut Random, count: usize) -> RunState {
     for (row, id) in state.rows.iter_mut().zip(ids) {
         *row = state_row(random, state.clock, id);
     }
+    leave_one_hold(random, &mut state.rows[..count]);
     state
+}
+
+/// Sees to it that at most one of these has a job in its hold: of those that have, any keeps it, or none.
+fn leave_one_hold(random: &mut Random, rows: &mut [StateRow]) {
+    let mut in_hold: Vec<&mut StateRow> = rows.iter_mut().filter(|row| is_in_hold(row)).collect();
+    random.shuffle(&mut in_hold);
+    let kept = usize::from(!random.one_in(4));
+    for row in in_hold.into_iter().skip(kept) {
+        let planned = &mut row.planned;
+        match random.below(3) {
+            0 => planned.hold = 1,
+            // Not begun.
+            1 => row.left = planned.cost,
+            // Over just now, if that leaves work to do.
+            _ => planned.hold = planned.cost - row.left,
+        }
+    }
+}
+
+/// Whether the job of a good row has done its first unit and not yet all of its hold.
+fn is_in_hold(row: &StateRow) -> bool {
+    row.left > 0 && (1..row.planned.hold).contains(&(row.planned.cost - row.left))
 }
 
 fn state_row(random: &mut Random, clock: u32, id: u16) -> StateRow {
@@ -315,7 +393,7 @@ fn state_row(random: &mut Random, clock: u32, id: u16) -> StateRow {
         ..StateRow::default()
     };
     if !random.one_in(3) {
-        row.left = random.words(1, planned.cost);
+        row.left = work_left(random, &planned);
         row.lapsed = random.one_in(2);
         // A lapsed sample may be any, and it may look young to those who forget that it has lapsed.
         row.sample = match row.lapsed && random.one_in(2) {
@@ -330,14 +408,26 @@ fn state_plan_row(random: &mut Random, id: u16) -> PlanRow {
     let half = random.pick(&[1, 3, 10, 60, 500_000]);
     let deadline = random.words(1, half);
     let period = random.words(deadline, 2 * half - deadline);
-    let costs = random.pick(&[1, 3, deadline]).min(deadline);
+    let costs = random.pick(&[1, 3, deadline, deadline]).min(deadline);
+    let cost = random.words(1, costs);
+    let most = *holds(cost).end();
+    let any = random.words(1, most);
     PlanRow {
         id,
-        cost: random.words(1, costs),
+        cost,
         validity: deadline + period,
+        hold: random.pick(&[1, any, any.min(3), most]),
         deadline,
         period,
     }
+}
+
+/// The work left of a job of this object: any, or about as much as when its hold begins or ends.
+fn work_left(random: &mut Random, planned: &PlanRow) -> u32 {
+    let any = random.words(1, planned.cost);
+    let begun = planned.cost - 1;
+    let over = planned.cost - planned.hold;
+    random.pick(&[any, any, planned.cost, begun, over, over + 1]).max(1)
 }
 
 /// A sample instant with an age below the validity, often the smallest or the largest such.

@@ -7,6 +7,7 @@
 #![forbid(unsafe_code)]
 
 pub mod classic;
+pub mod held_numbers;
 pub mod numbers;
 pub mod planning;
 pub mod running;

@@ -10,6 +10,7 @@ mod cform;
 #[allow(unsafe_code)]
 mod ffi;
 mod generate;
+mod part_holds;
 mod part_numbers;
 mod part_plans;
 mod part_runs;
@@ -31,7 +32,7 @@ const SEED: u64 = 0x4D4C_2026_0001;
 /// A part of the comparison: its title, and what it does with a seed.
 type Part = (&'static str, fn(u64) -> Result<(), String>);
 
-const PARTS: [Part; 8] = [
+const PARTS: [Part; 9] = [
     ("part 1: stored tables", part_tables::stored_tables),
     ("part 2: the choice and the second door", part_tables::choices_and_lists),
     ("part 3: row tables planned", part_plans::row_tables),
@@ -40,6 +41,7 @@ const PARTS: [Part; 8] = [
     ("part 6: the paper's own numbers", part_numbers::numbers),
     ("part 7: tables written", part_writing::written_tables),
     ("part 8: the reseller's sheet", part_sheets::sheets),
+    ("part 9: numbers with holds", part_holds::numbers),
 ];
 
 fn main() -> ExitCode {

@@ -1,4 +1,5 @@
-//! The paper's own numbers, as it lists them under "Numbers to hold against it".
+//! The paper's own numbers, as it lists them under "Numbers to hold against it". They are from before there were holds,
+//! and with a hold of 1 everywhere they stand.
 
 use crate::planning::PlanRow;
 use crate::tables::{refused_at, ObjectRow, Refusal};
@@ -16,7 +17,7 @@ impl Numbers {
     pub fn rows(&self) -> Vec<ObjectRow> {
         self.objects
             .iter()
-            .map(|&(id, cost, validity)| ObjectRow { id, cost, validity })
+            .map(|&(id, cost, validity)| ObjectRow::plain(id, cost, validity))
             .collect()
     }
 
@@ -27,13 +28,7 @@ impl Numbers {
         assert_eq!(rows.len(), answers.len());
         let planned = rows.iter().zip(answers);
         Ok(planned
-            .map(|(row, &(deadline, period))| PlanRow {
-                id: row.id,
-                cost: row.cost,
-                validity: row.validity,
-                deadline,
-                period,
-            })
+            .map(|(row, &(deadline, period))| PlanRow::of(row, deadline, period))
             .collect())
     }
 }

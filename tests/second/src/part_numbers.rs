@@ -56,11 +56,7 @@ fn stored_bytes(tally: &mut Tally) -> Result<(), String> {
         bytes.extend([distance, 0, 0, 0, 1, 0, 0x4D, 0x4C]);
         bytes
     };
-    let read_row = ObjectRow {
-        id: 9,
-        cost: 1,
-        validity: 2,
-    };
+    let read_row = ObjectRow::plain(9, 1, 2);
     let answers = [
         (vec![0; 7], Err(refused(1))),
         (vec![0; 8], Err(refused(3))),
@@ -84,11 +80,7 @@ fn written_bytes(tally: &mut Tally) -> Result<(), String> {
     let mut rows = Vec::new();
     let mut bytes = Vec::new();
     for (id, validity) in [(40, 20), (10, 4), (30, 8), (20, 5)] {
-        rows.push(ObjectRow {
-            id: u16::from(id),
-            cost: 1,
-            validity: u32::from(validity),
-        });
+        rows.push(ObjectRow::plain(u16::from(id), 1, u32::from(validity)));
         bytes.extend([id, 0, 0, 0, 1, 0, 0, 0, validity, 0, 0, 0]);
     }
     bytes.extend([0x38, 0, 0, 0, 4, 0, 0x4D, 0x4C]);
@@ -104,18 +96,23 @@ fn written_bytes(tally: &mut Tally) -> Result<(), String> {
 fn started(objects: &[(u16, u32, u32)], clock: u32, firsts: &[u32]) -> Result<ffi::Run, String> {
     let rows: Vec<ObjectRow> = objects
         .iter()
-        .map(|&(id, cost, validity)| ObjectRow { id, cost, validity })
+        .map(|&(id, cost, validity)| ObjectRow::plain(id, cost, validity))
         .collect();
-    let answer = ffi::start(&cform::table(&rows), clock, firsts);
+    started_rows(&rows, clock, firsts)
+}
+
+/// Starts a run of these rows.
+pub fn started_rows(rows: &[ObjectRow], clock: u32, firsts: &[u32]) -> Result<ffi::Run, String> {
+    let answer = ffi::start(&cform::table(rows), clock, firsts);
     match answer {
         Ok(answer) if answer.verdict == ffi::Verdict::default() => Ok(answer.run),
         _ => Err(format!(
-            "{objects:?} with first releases {firsts:?} is not started: {answer:?}"
+            "{rows:?} with first releases {firsts:?} is not started: {answer:?}"
         )),
     }
 }
 
-fn slot(run: &mut ffi::Run, stolen: bool) -> Result<(), String> {
+pub fn slot(run: &mut ffi::Run, stolen: bool) -> Result<(), String> {
     let before = *run;
     let verdict = ffi::slot(run, stolen);
     agree("channelfox_slot", &ffi::Verdict::default(), &verdict, || {
@@ -123,7 +120,7 @@ fn slot(run: &mut ffi::Run, stolen: bool) -> Result<(), String> {
     })
 }
 
-fn reads(run: &ffi::Run, id: u16, value: u32, age: u32) -> Result<(), String> {
+pub fn reads(run: &ffi::Run, id: u16, value: u32, age: u32) -> Result<(), String> {
     let expected = ffi::Reading {
         verdict: ffi::Verdict::default(),
         value,

@@ -21,8 +21,8 @@ pub fn row_tables(seed: u64) -> Result<(), String> {
     for class in PLACES {
         tally.expect(format!("refusal 10 at {class}"), 50);
     }
-    for number in [4, 7, 8, 9] {
-        tally.expect(format!("refusal {number}"), 1000);
+    for number in [4, 6, 7, 8, 9] {
+        tally.expect(format!("refusal {number}"), 700);
     }
     tally.expect("ranked", 50_000);
     tally.expect("ranked, not in the order of the rows", 10_000);
@@ -32,12 +32,24 @@ pub fn row_tables(seed: u64) -> Result<(), String> {
     tally.expect("with ties in validity and cost", 10_000);
     tally.expect("planned with 64 objects", 1000);
     tally.expect("planned with rows beyond the count that are not zero", 1000);
+    for kind in [PLAIN, HELD, HELD_UP, HELD_OFF] {
+        tally.expect(kind, 1000);
+    }
     expect_classic(&mut tally);
     for_cases(seed, 3, TABLES, |random| row_table(random, &mut tally))?;
     tally.close()
 }
 
-fn row_table(random: &mut Random, tally: &mut Tally) -> Result<(), String> {
+/// A table to be planned: 64 rows, the count of good ones, the count that is told, and how it was made.
+struct Drawn {
+    rows: Vec<ObjectRow>,
+    count: usize,
+    told_count: usize,
+    times: Times,
+    garbage: bool,
+}
+
+fn drawn(random: &mut Random) -> Drawn {
     let mut times = random.pick(&[Times::Short, Times::Short, Times::Middle, Times::Tied]);
     let mut count = object_count(random);
     if random.one_in(ONE_IS_LONG) {
@@ -64,39 +76,85 @@ fn row_table(random: &mut Random, tally: &mut Tally) -> Result<(), String> {
         true => garbage_row(random),
         false => ObjectRow::default(),
     });
+    Drawn {
+        rows,
+        count,
+        told_count,
+        times,
+        garbage,
+    }
+}
 
-    let answer = plan(told_count, &rows);
-    let mut table = cform::table(&rows);
-    table.count = told_count;
+fn row_table(random: &mut Random, tally: &mut Tally) -> Result<(), String> {
+    let drawn = drawn(random);
+    let (told_count, rows) = (drawn.told_count, &drawn.rows);
+    let answer = plan(told_count, rows);
+    let table = cform::handed_in(told_count, rows);
     let library = ffi::plan_table(&table);
     agree("channelfox_plan_table", &cform::plan_answer(&answer), &library, || {
         format!("{table:?}")
     })?;
-    in_order(told_count, &rows, &table, tally)?;
-    beside_classic(&answer, told_count, &rows, &table, tally)?;
+    in_order(told_count, rows, &table, tally)?;
+    beside_classic(&answer, told_count, rows, &table, tally)?;
+    tell(&drawn, &answer, tally);
+    tell_holds(&drawn, &answer, tally);
+    Ok(())
+}
 
+fn tell(drawn: &Drawn, answer: &Result<Vec<PlanRow>, Refusal>, tally: &mut Tally) {
     tally.add("row tables", 1);
-    match &answer {
+    match answer {
         Ok(_) => tally.add("planned", 1),
         Err(Refusal { number: 10, place }) => {
-            tally.add(&format!("refusal 10 at {}", class(*place, count)), 1);
+            tally.add(&format!("refusal 10 at {}", class(*place, drawn.count)), 1);
             tally.add("ranked, though refused with 10", 1);
         }
         Err(refusal) => tally.add(&format!("refusal {}", refusal.number), 1),
     }
-    if times == Times::Long {
-        tally.add("with long validities", 1);
+    let planned = answer.is_ok();
+    let seen = [
+        ("with long validities", drawn.times == Times::Long),
+        ("with ties in validity and cost", drawn.times == Times::Tied),
+        ("planned with 64 objects", planned && drawn.count == MOST_OBJECTS),
+        (
+            "planned with rows beyond the count that are not zero",
+            planned && drawn.garbage && drawn.count < MOST_OBJECTS,
+        ),
+    ];
+    for (what, seen) in seen {
+        tally.add(what, u64::from(seen));
     }
-    if times == Times::Tied {
-        tally.add("with ties in validity and cost", 1);
+}
+
+const PLAIN: &str = "planned, with a hold of 1 everywhere";
+const HELD: &str = "planned, with holds above 1";
+const HELD_UP: &str = "of them with deadlines that holds of 1 would not give";
+const HELD_OFF: &str = "refused with 10, though planned with holds of 1";
+
+/// How many tables have holds, and for how many of them that makes a difference.
+fn tell_holds(drawn: &Drawn, answer: &Result<Vec<PlanRow>, Refusal>, tally: &mut Tally) {
+    let refused_with_10 = answer.as_ref().is_err_and(|refusal| refusal.number == 10);
+    if !answer.is_ok() && !refused_with_10 {
+        return;
     }
-    if answer.is_ok() && count == MOST_OBJECTS {
-        tally.add("planned with 64 objects", 1);
+    let used = &drawn.rows[..drawn.count];
+    if used.iter().all(|row| row.hold == 1) {
+        tally.add(PLAIN, u64::from(answer.is_ok()));
+        return;
     }
-    if answer.is_ok() && garbage && count < MOST_OBJECTS {
-        tally.add("planned with rows beyond the count that are not zero", 1);
+    let plain: Vec<ObjectRow> = used.iter().map(|row| ObjectRow { hold: 1, ..*row }).collect();
+    match (answer, plan(plain.len(), &plain)) {
+        (Ok(held), Ok(plain)) => {
+            tally.add(HELD, 1);
+            let later = held
+                .iter()
+                .zip(&plain)
+                .any(|(held, plain)| held.deadline > plain.deadline);
+            tally.add(HELD_UP, u64::from(later));
+        }
+        (Err(_), Ok(_)) => tally.add(HELD_OFF, 1),
+        _ => {}
     }
-    Ok(())
 }
 
 /// The rows in priority order, by which a reader of a refusal finds the object that its place tells.
@@ -129,8 +187,8 @@ fn expect_classic(tally: &mut Tally) {
     for class in PLACES {
         tally.expect(format!("classic refusal 10 at {class}"), 50);
     }
-    for number in [4, 7, 8, 9] {
-        tally.expect(format!("classic refusal {number}"), 1000);
+    for number in [4, 6, 7, 8, 9] {
+        tally.expect(format!("classic refusal {number}"), 700);
     }
     for kind in [BOTH, ONLY_OURS, NEITHER, BELOW, EQUAL] {
         tally.expect(kind, 1000);

@@ -1,6 +1,6 @@
 //! Part 4: starts, and runs compared after every slot.
 
-use paper::running::{Run, Value};
+use paper::running::{Object, Run, Value};
 use paper::states::{shown, taken_up};
 use paper::tables::{ObjectRow, Refusal, MOST_OBJECTS};
 
@@ -31,7 +31,7 @@ pub fn starts_and_runs(seed: u64) -> Result<(), String> {
     let mut tally = Tally::new();
     tally.expect("starts", 10_000);
     tally.expect("starts accepted", 1000);
-    for number in [4, 7, 8, 9] {
+    for number in [4, 6, 7, 8, 9] {
         tally.expect(format!("starts with refusal {number}"), 100);
     }
     for class in PLACES {
@@ -123,7 +123,14 @@ fn run_from_a_start(random: &mut Random, seen: &mut Seen) -> Result<(), String> 
 
     let run = answer.expect("the rows are planned and the first releases are below the periods");
     let slots = slots(random, most_slots);
-    follow(random, run, &expected.run, &slots, seen, &input)
+    let skips = seen.skips;
+    follow(random, run, &expected.run, &slots, seen, &input)?;
+    // Demand 3: what is planned keeps its deadlines as long as no slot is stolen, whatever is held.
+    if slots.iter().all(|byte| *byte == 0) {
+        seen.free_runs += 1;
+        agree("releases skipped, and no slot stolen", &skips, &seen.skips, input)?;
+    }
+    Ok(())
 }
 
 fn told_start(rows: &[ObjectRow], clock: u32, firsts: &[u32]) -> String {
@@ -175,7 +182,8 @@ fn follow(
         let before = library;
         for byte in chunk {
             done += 1;
-            paper.slot(*byte != 0);
+            let worked = paper.slot(*byte != 0);
+            seen.work(&paper, worked);
             if stepping != Stepping::Advance {
                 let told = || told_slots(input, &slots[..done]);
                 let verdict = ffi::slot(&mut library, *byte != 0);
@@ -257,6 +265,10 @@ struct Seen {
     most_objects: u64,
     turns: u64,
     skips: u64,
+    free_runs: u64,
+    in_hold: u64,
+    kept_waiting: u64,
+    begun_in_hold: u64,
     skips_at_the_end: u64,
     lapsed_but_young: u64,
     none: u64,
@@ -269,6 +281,10 @@ struct Seen {
 }
 
 const LAPSED_BUT_YOUNG: &str = "samples in hand that had lapsed and look young";
+const FREE_RUNS: &str = "runs from a start, no slot stolen and no release skipped";
+const IN_HOLD: &str = "slots that left a job in its hold";
+const KEPT_WAITING: &str = "slots that a hold had, though an object ahead had work";
+const BEGUN_IN_HOLD: &str = "runs from a state with a job in its hold";
 
 fn expect_runs(tally: &mut Tally) {
     tally.expect("runs from a start", 2_000);
@@ -279,6 +295,10 @@ fn expect_runs(tally: &mut Tally) {
     tally.expect("objects in the largest run", 64);
     tally.expect("turns of the clock from 4,294,967,295 to 0", 1_000);
     tally.expect("releases skipped", 10_000);
+    tally.expect(FREE_RUNS, 100);
+    tally.expect(IN_HOLD, 10_000);
+    tally.expect(KEPT_WAITING, 5_000);
+    tally.expect(BEGUN_IN_HOLD, 500);
     tally.expect("objects whose skips stopped at 4,294,967,295", 100);
     tally.expect(LAPSED_BUT_YOUNG, 1_000);
     tally.expect("readings of none", 10_000);
@@ -308,6 +328,15 @@ impl Seen {
         }
     }
 
+    /// What a slot says of holds: the place that worked in it, if one did, and the run after it. Whoever is ahead of
+    /// that place and has work now had it before.
+    fn work(&mut self, after: &Run, worked: Option<usize>) {
+        let in_hold = after.objects.iter().any(Object::is_in_hold);
+        self.in_hold += u64::from(in_hold);
+        let ahead = &after.objects[..worked.unwrap_or(0)];
+        self.kept_waiting += u64::from(ahead.iter().any(|object| object.job.is_some()));
+    }
+
     fn run(&mut self, from: &ffi::Run, paper: &Run, slots: &[u8]) {
         let length = slots.len() as u64;
         self.slots += length;
@@ -315,6 +344,8 @@ impl Seen {
         self.longest = self.longest.max(length);
         self.most_objects = self.most_objects.max(paper.objects.len() as u64);
         self.turns += (u64::from(from.clock) + length) >> 32;
+        let begun = taken_up(&cform::state(from)).expect("the state is acceptable");
+        self.begun_in_hold += u64::from(begun.objects.iter().any(Object::is_in_hold));
         for (row, object) in from.rows.iter().zip(&paper.objects) {
             let before = u64::from(row.skips);
             self.skips += object.skips - before;
@@ -332,6 +363,10 @@ impl Seen {
         tally.add("objects in the largest run", self.most_objects);
         tally.add("turns of the clock from 4,294,967,295 to 0", self.turns);
         tally.add("releases skipped", self.skips);
+        tally.add(FREE_RUNS, self.free_runs);
+        tally.add(IN_HOLD, self.in_hold);
+        tally.add(KEPT_WAITING, self.kept_waiting);
+        tally.add(BEGUN_IN_HOLD, self.begun_in_hold);
         tally.add("objects whose skips stopped at 4,294,967,295", self.skips_at_the_end);
         tally.add(LAPSED_BUT_YOUNG, self.lapsed_but_young);
         tally.add("readings of none", self.none);

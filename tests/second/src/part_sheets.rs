@@ -56,7 +56,7 @@ fn expect_answers(tally: &mut Tally) {
     for class in LINES {
         tally.expect(format!("refusal 17 at {class}"), 1_000);
     }
-    for number in 7..=9 {
+    for number in 6..=9 {
         for class in PLACES {
             // No row is earlier than the first, so 9 cannot be told there.
             if (number, class) != (9, FIRST) {
@@ -130,28 +130,41 @@ fn told(bytes: &[u8]) -> String {
     format!("{} bytes {}\n  which begin {text:?}", bytes.len(), hex(bytes))
 }
 
-/// Every sheet of at most seven bytes, each of them 0, 1, 2, a comma, CR or LF. Seven bytes are the shortest line.
+/// Every sheet of at most nine bytes, each of them 0, 2, a comma, CR or LF. Nine bytes are the shortest line.
 fn every_short_sheet() -> Result<(), String> {
     let mut tally = Tally::new();
-    tally.expect("sheets of at most 7 bytes, each 0, 1, 2, comma, CR or LF", 300_000);
-    tally.expect("of them imported", 6);
-    tally.expect("of them refused with 17", 300_000);
-    let mut sheets = vec![Vec::new()];
-    for length in 0..=7 {
-        for bytes in &sheets {
-            tally.add("sheets of at most 7 bytes, each 0, 1, 2, comma, CR or LF", 1);
-            match compare_import(bytes)? {
-                Ok(_) => tally.add("of them imported", 1),
-                Err(refusal) => tally.add(&format!("of them refused with {}", refusal.number), 1),
-            }
+    tally.expect(SHORT_SHEETS, 2_000_000);
+    for (number, least) in [(0, 2), (4, 1), (6, 2), (7, 2), (8, 2), (17, 2_000_000)] {
+        tally.expect(of_short_sheets(number), least);
+    }
+    for length in 0..=9 {
+        // How often each refusal was met, and in place 0 how often none was.
+        let mut times = [0; 18];
+        for case in 0..BYTES.len().pow(length) {
+            let answer = compare_import(&short_sheet(length, case))?;
+            times[answer.map_or_else(|refusal| refusal.number as usize, |_| 0)] += 1;
         }
-        if length < 7 {
-            sheets = sheets.iter().flat_map(|bytes| with_one_more(bytes)).collect();
+        tally.add(SHORT_SHEETS, times.iter().sum());
+        for (number, times) in times.into_iter().enumerate().filter(|(_, times)| *times > 0) {
+            tally.add(&of_short_sheets(number), times);
         }
     }
     tally.close()
 }
 
-fn with_one_more(bytes: &[u8]) -> Vec<Vec<u8>> {
-    b"012,\r\n".iter().map(|byte| [bytes, &[*byte]].concat()).collect()
+/// The line of the tally for the short sheets with this refusal, or with none.
+fn of_short_sheets(number: usize) -> String {
+    match number {
+        0 => "of them imported".to_string(),
+        _ => format!("of them refused with {number}"),
+    }
+}
+
+const SHORT_SHEETS: &str = "sheets of at most 9 bytes, each 0, 2, comma, CR or LF";
+const BYTES: &[u8] = b"02,\r\n";
+
+/// The sheet of so many bytes that this number stands for: its digits to the base of as many as there are bytes.
+fn short_sheet(length: u32, case: usize) -> Vec<u8> {
+    let digit = |at: u32| case / BYTES.len().pow(at) % BYTES.len();
+    (0..length).map(|at| BYTES[digit(at)]).collect()
 }

@@ -13,13 +13,20 @@ use crate::tally::{agree, for_cases, Tally};
 const CASES_OF_EACH_KIND: u64 = 200;
 const RANDOM_DAMAGE: u64 = 60_000;
 
-/// A kind of damage that breaks exactly one condition.
+/// A kind of damage that breaks exactly one condition, or two that go together.
 struct Kind {
     name: &'static str,
-    breaks: Fault,
+    breaks: Breaks,
     /// How many objects the state has before it is damaged.
     objects: (usize, usize),
     damage: Damage,
+}
+
+/// What is broken: a fault alone, or two conditions on a hold and its cost.
+#[derive(Clone, Copy, PartialEq, Eq, Debug)]
+enum Breaks {
+    One(Fault),
+    Two(Condition, Condition),
 }
 
 /// What is damaged.
@@ -44,7 +51,7 @@ const fn state(
 ) -> Kind {
     Kind {
         name,
-        breaks: Fault::Paper(breaks),
+        breaks: Breaks::One(Fault::Paper(breaks)),
         objects,
         damage: Damage::State(damage),
     }
@@ -57,7 +64,7 @@ const fn row(name: &'static str, breaks: Condition, damage: fn(&mut Random, u32,
 const fn form(name: &'static str, breaks: Fault, damage: fn(&mut Random, u32, &mut RunRow)) -> Kind {
     Kind {
         name,
-        breaks,
+        breaks: Breaks::One(breaks),
         objects: ANY,
         damage: Damage::Row(damage),
     }
@@ -66,7 +73,7 @@ const fn form(name: &'static str, breaks: Fault, damage: fn(&mut Random, u32, &m
 const fn beyond(name: &'static str, damage: fn(u32, &mut RunRow)) -> Kind {
     Kind {
         name,
-        breaks: Fault::Paper(Condition::BeyondCountIsZero),
+        breaks: Breaks::One(Fault::Paper(Condition::BeyondCountIsZero)),
         objects: NOT_ALL,
         damage: Damage::Beyond(damage),
     }
@@ -101,14 +108,32 @@ const KINDS: &[Kind] = &[
         let later = random.between(earlier + 1, run.count - 1);
         run.rows[later].planned.id = run.rows[earlier].planned.id;
     }),
-    row("cost 0", Condition::CostAtLeast1, |_, _, row| {
-        make_idle(row);
-        row.planned.cost = 0;
-    }),
+    // No hold is from 1 to a cost of 0.
+    Kind {
+        name: "cost 0, and a hold of 1",
+        breaks: Breaks::Two(Condition::CostAtLeast1, Condition::HoldAtMostCost),
+        objects: ANY,
+        damage: Damage::Row(|_, _, row| {
+            make_idle(row);
+            row.planned.cost = 0;
+            row.planned.hold = 1;
+        }),
+    },
+    Kind {
+        name: "cost 0, and a hold of 0",
+        breaks: Breaks::Two(Condition::CostAtLeast1, Condition::HoldAtLeast1),
+        objects: ANY,
+        damage: Damage::Row(|_, _, row| {
+            make_idle(row);
+            row.planned.cost = 0;
+            row.planned.hold = 0;
+        }),
+    },
     row(
         "cost one above the deadline",
         Condition::CostAtMostDeadline,
         |_, _, row| {
+            row.planned.hold = 1;
             row.planned.cost = row.planned.deadline + 1;
         },
     ),
@@ -116,6 +141,7 @@ const KINDS: &[Kind] = &[
         "cost far above the deadline",
         Condition::CostAtMostDeadline,
         |random, _, row| {
+            row.planned.hold = 1;
             row.planned.cost = random.words(row.planned.deadline + 1, u32::MAX);
         },
     ),
@@ -144,6 +170,7 @@ const KINDS: &[Kind] = &[
             row.next = clock;
             row.planned.validity = row.planned.validity.max(3);
             row.planned.cost = 1;
+            row.planned.hold = 1;
             row.planned.deadline = 1;
             row.planned.period = random.words(1, row.planned.validity - 2);
         },
@@ -166,6 +193,88 @@ const KINDS: &[Kind] = &[
         |_, _, row| {
             row.planned.validity = u32::MAX;
             row.planned.period = u32::MAX - row.planned.deadline;
+        },
+    ),
+    row("hold 0", Condition::HoldAtLeast1, |random, _, row| {
+        not_begun(random, row);
+        row.planned.hold = 0;
+    }),
+    row(
+        "hold one above the cost",
+        Condition::HoldAtMostCost,
+        |random, _, row| {
+            not_begun(random, row);
+            row.planned.cost = row.planned.cost.min(65_535);
+            row.left = row.left.min(row.planned.cost);
+            row.planned.hold = row.planned.cost + 1;
+        },
+    ),
+    row(
+        "hold further above the cost",
+        Condition::HoldAtMostCost,
+        |random, _, row| {
+            not_begun(random, row);
+            row.planned.cost = row.planned.cost.min(65_535);
+            row.left = row.left.min(row.planned.cost);
+            row.planned.hold = random.words(row.planned.cost + 1, 65_536);
+        },
+    ),
+    row("hold 65,537", Condition::HoldAtMost65536, |random, clock, row| {
+        make_costly(random, clock, row);
+        row.planned.hold = 65_537;
+    }),
+    row(
+        "hold above 65,536 and up to the cost",
+        Condition::HoldAtMost65536,
+        |random, clock, row| {
+            make_costly(random, clock, row);
+            row.planned.hold = random.words(65_537, row.planned.cost);
+        },
+    ),
+    Kind {
+        name: "hold above the cost and above 65,536",
+        breaks: Breaks::Two(Condition::HoldAtMostCost, Condition::HoldAtMost65536),
+        objects: ANY,
+        damage: Damage::Row(|random, _, row| {
+            not_begun(random, row);
+            // Some are good in their lower 16 bits.
+            let low = row.planned.hold + (1 << 16);
+            let any = random.words(1_000_001, u32::MAX);
+            row.planned.hold = random.pick(&[low + (1 << 20), low + (1 << 31), u32::MAX, any]);
+        }),
+    },
+    Kind {
+        name: "hold 65,537, and the only job in it",
+        breaks: Breaks::One(Fault::Paper(Condition::HoldAtMost65536)),
+        objects: (1, 1),
+        damage: Damage::Row(|random, clock, row| {
+            make_costly(random, clock, row);
+            make_busy(random, clock, row);
+            row.planned.hold = 65_537;
+            row.left = row.planned.cost - random.pick(&[1, 2, 65_536]);
+        }),
+    },
+    state(
+        "two rows in their hold",
+        Condition::OneInItsHold,
+        (2, MOST_OBJECTS),
+        |random, run| {
+            let first = random.below(run.count - 1);
+            let second = random.between(first + 1, run.count - 1);
+            for at in [first, second] {
+                put_in_hold(random, run.clock, &mut run.rows[at]);
+            }
+        },
+    ),
+    state(
+        "three rows in their hold",
+        Condition::OneInItsHold,
+        (3, MOST_OBJECTS),
+        |random, run| {
+            let middle = random.between(1, run.count - 2);
+            for at in [0, middle, run.count - 1] {
+                put_in_hold(random, run.clock, &mut run.rows[at]);
+            }
         },
     ),
     row(
@@ -273,6 +382,7 @@ const KINDS: &[Kind] = &[
     }),
     beyond("beyond the count: cost", |any, row| row.planned.cost = any),
     beyond("beyond the count: validity", |any, row| row.planned.validity = any),
+    beyond("beyond the count: hold", |any, row| row.planned.hold = any),
     beyond("beyond the count: deadline", |any, row| row.planned.deadline = any),
     beyond("beyond the count: period", |any, row| row.planned.period = any),
     beyond("beyond the count: next release", |any, row| row.next = any),
@@ -285,7 +395,7 @@ const KINDS: &[Kind] = &[
     beyond("beyond the count: skips", |any, row| row.skips = any),
     Kind {
         name: "beyond the count: held without a held value",
-        breaks: Fault::HeldIsNot0WithoutHeldValue,
+        breaks: Breaks::One(Fault::HeldIsNot0WithoutHeldValue),
         objects: NOT_ALL,
         damage: Damage::Beyond(|any, row| row.held = any),
     },
@@ -332,7 +442,55 @@ fn make_busy(random: &mut Random, clock: u32, row: &mut RunRow) {
         row.left = random.words(1, row.planned.cost);
         row.sample = young(random, clock, row.planned.validity);
         row.lapsed = random.words(0, 1);
+        // Another row may be in its hold already.
+        row.planned.hold = 1;
     }
+}
+
+/// Sees to it that a job, if there is one in hand, has done nothing yet: then it is not in its hold, whatever that is.
+/// Sometimes there is none.
+fn not_begun(random: &mut Random, row: &mut RunRow) {
+    if random.one_in(3) {
+        make_idle(row);
+    } else if row.left > 0 {
+        row.left = row.planned.cost;
+    }
+}
+
+/// A row with a cost above 65,537, of which nothing has been done.
+fn make_costly(random: &mut Random, clock: u32, row: &mut RunRow) {
+    make_idle(row);
+    row.stored = NONE;
+    row.held = 0;
+    row.planned.cost = random.words(65_537, 400_000);
+    row.planned.deadline = random.words(row.planned.cost, 500_000);
+    row.planned.period = random.words(row.planned.deadline, 1_000_000 - row.planned.deadline);
+    row.planned.validity = row.planned.deadline + row.planned.period;
+    row.next = clock.wrapping_add(random.words(0, row.planned.period - 1));
+    if random.one_in(2) {
+        make_busy(random, clock, row);
+        row.left = row.planned.cost;
+    }
+}
+
+/// A row with a job in its hold: at the beginning of it, at its end, or anywhere. It gets a cost of 2 at least.
+fn put_in_hold(random: &mut Random, clock: u32, row: &mut RunRow) {
+    make_idle(row);
+    row.stored = LAPSED;
+    row.held = 0;
+    let planned = &mut row.planned;
+    planned.cost = random.words(2, planned.deadline.max(2));
+    planned.deadline = planned.deadline.max(planned.cost);
+    planned.period = planned.period.min(500_000).max(planned.deadline);
+    planned.validity = planned.deadline + planned.period;
+    row.next = clock.wrapping_add(random.words(0, planned.period - 1));
+    let most = planned.cost.min(65_536);
+    let any = random.words(2, most);
+    let hold = random.pick(&[2, any, most]);
+    make_busy(random, clock, row);
+    row.planned.hold = hold;
+    let done = random.words(1, hold - 1);
+    row.left = row.planned.cost - random.pick(&[1, done, hold - 1]);
 }
 
 /// Stores a held value of this sample instant.
@@ -354,7 +512,10 @@ pub fn damaged_states(seed: u64) -> Result<(), String> {
     tally.expect("of them still acceptable", RANDOM_DAMAGE / 20);
     tally.expect("of them refused with 13", RANDOM_DAMAGE / 20);
     for_cases(seed, 5, RANDOM_DAMAGE, |random| random_damage(random, &mut tally))?;
-    println!("  {:>10}  kinds of damage that break one condition", KINDS.len());
+    println!(
+        "  {:>10}  kinds of damage that break one condition, or two that go together",
+        KINDS.len()
+    );
     tally.close()
 }
 
@@ -403,7 +564,11 @@ fn one_condition_broken(random: &mut Random, kind: &Kind) -> Result<(), String> 
         }
     }
     let broken = faults(&run);
-    if broken != [kind.breaks] {
+    let expected = match kind.breaks {
+        Breaks::One(fault) => vec![fault],
+        Breaks::Two(one, other) => vec![Fault::Paper(one), Fault::Paper(other)],
+    };
+    if broken != expected {
         return Err(format!("the damage \"{}\" breaks {broken:?}: {run:?}", kind.name));
     }
     all_refuse(random, &run).map_err(|told| format!("{}: {told}", kind.name))
@@ -481,6 +646,7 @@ fn damage_a_field(random: &mut Random, run: &mut ffi::Run) {
     let fields = [
         &mut row.planned.cost,
         &mut row.planned.validity,
+        &mut row.planned.hold,
         &mut row.planned.deadline,
         &mut row.planned.period,
         &mut row.next,

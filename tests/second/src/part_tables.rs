@@ -1,7 +1,7 @@
 //! Parts 1 and 2: stored tables, the choice between two of them, and the second door.
 
 use paper::planning::plan;
-use paper::tables::{check_table, choose, read, ObjectRow, Refusal, MOST_OBJECTS};
+use paper::tables::{check_table, choose, read, ObjectRow, Refusal, MOST_HOLD, MOST_OBJECTS};
 
 use crate::generate::{garbage_row, object_rows, spoil_rows, Times};
 use crate::random::Random;
@@ -10,7 +10,7 @@ use crate::{cform, ffi, stored};
 
 const STORED_TABLES: u64 = 130_000;
 const PAIRS: u64 = 30_000;
-const LISTS: u64 = 30_000;
+const LISTS: u64 = 40_000;
 
 /// Part 1: stored tables through the reader, and half of them through the planner.
 pub fn stored_tables(seed: u64) -> Result<(), String> {
@@ -18,6 +18,8 @@ pub fn stored_tables(seed: u64) -> Result<(), String> {
     tally.expect("stored tables", 100_000);
     tally.expect("of them also planned from the bytes", 50_000);
     tally.expect("read", 20_000);
+    tally.expect(SOME_HOLDS, 5_000);
+    tally.expect(LONGEST_HOLDS, 1_000);
     for length in LENGTHS {
         tally.expect(format!("of {length} bytes"), 50);
     }
@@ -42,6 +44,9 @@ pub fn stored_tables(seed: u64) -> Result<(), String> {
     for_cases(seed, 1, STORED_TABLES, |random| stored_table(random, &mut tally))?;
     tally.close()
 }
+
+const SOME_HOLDS: &str = "read, with holds above 1";
+const LONGEST_HOLDS: &str = "read, with a hold of 65,536";
 
 /// Lengths that must have been seen.
 const LENGTHS: [usize; 12] = [0, 1, 2, 3, 4, 5, 6, 7, 8, 9, 4096, 4097];
@@ -68,6 +73,7 @@ fn stored_table(random: &mut Random, tally: &mut Tally) -> Result<(), String> {
     )?;
     tally.add("stored tables", 1);
     tally.add(&told(&bytes, &answer), 1);
+    tell_holds(&answer, tally);
     tell_length_and_distance(&bytes, &answer, tally);
     let far = answer.as_ref().is_ok_and(|rows| is_far_to_search(rows));
     if random.one_in(if far { 40 } else { 2 }) {
@@ -90,6 +96,12 @@ fn stored_table(random: &mut Random, tally: &mut Tally) -> Result<(), String> {
         }
     }
     Ok(())
+}
+
+fn tell_holds(answer: &Result<Vec<ObjectRow>, Refusal>, tally: &mut Tally) {
+    let longest = answer.iter().flatten().map(|row| row.hold).max();
+    tally.add(SOME_HOLDS, u64::from(longest.is_some_and(|hold| hold > 1)));
+    tally.add(LONGEST_HOLDS, u64::from(longest == Some(MOST_HOLD)));
 }
 
 /// Many objects with long validities, whose deadlines are far to search for a planner that tries every t.
@@ -153,7 +165,7 @@ pub fn choices_and_lists(seed: u64) -> Result<(), String> {
     for_cases(seed, 20, PAIRS, |random| choice(random, &mut tally))?;
     tally.expect("lists of object rows", 10_000);
     tally.expect("lists accepted", 1000);
-    for number in [4, 7, 8, 9] {
+    for number in [4, 6, 7, 8, 9] {
         tally.expect(format!("lists with refusal {number}"), 1000);
     }
     for_cases(seed, 21, LISTS, |random| list(random, &mut tally))?;

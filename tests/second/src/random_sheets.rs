@@ -1,9 +1,9 @@
 //! Random sheets: good, spoiled and at their limits, kind by kind, and damaged in any way.
 
 use paper::sheet::sheet;
-use paper::tables::{refused, refused_at, ObjectRow, Refusal, MOST_BYTES, MOST_OBJECTS};
+use paper::tables::{refused, refused_at, ObjectRow, Refusal, MOST_BYTES, MOST_HOLD, MOST_OBJECTS};
 
-use crate::generate::{bad_cost, bad_validity, object_count, object_rows, place, spoil_rows, Times};
+use crate::generate::{bad_cost, bad_hold, bad_validity, object_count, object_rows, place, spoil_rows, Times};
 use crate::random::Random;
 
 /// A sheet, and its answer where the way it was made leaves no choice: imported, or this refusal.
@@ -21,11 +21,11 @@ pub struct Kind {
 /// How a sheet of a kind is made. All but the first spoil one line of a sheet, which gets 17 at that line.
 enum Make {
     Whole(fn(&mut Random) -> Sheet),
-    /// Another text for any of the three fields, given the good one.
+    /// Another text for any of the four fields, given the good one.
     Field(fn(&mut Random, &str) -> Vec<u8>),
     /// Another text for the id.
     Id(fn(&mut Random, &str) -> Vec<u8>),
-    /// Another text for the cost or the validity.
+    /// Another text for the cost, the validity or the hold.
     Number(fn(&mut Random, &str) -> Vec<u8>),
     /// Another text for the line, given the good one without what ends it.
     Line(fn(&mut Random, &str) -> Vec<u8>),
@@ -36,12 +36,12 @@ impl Kind {
         match self.make {
             Make::Whole(make) => make(random),
             Make::Field(text) => {
-                let which = random.below(3);
+                let which = random.below(4);
                 spoiled_at_a_line(random, |random, row| with_field(random, row, which, text))
             }
             Make::Id(text) => spoiled_at_a_line(random, |random, row| with_field(random, row, 0, text)),
             Make::Number(text) => {
-                let which = random.between(1, 2);
+                let which = random.between(1, 3);
                 spoiled_at_a_line(random, |random, row| with_field(random, row, which, text))
             }
             Make::Line(text) => spoiled_at_a_line(random, |random, row| text(random, &without_end(row))),
@@ -114,6 +114,36 @@ pub const KINDS: &[Kind] = &[
     }),
     whole("a validity of 4,294,967,295", |random| {
         one_bad_row(random, 8, |_, row| row.validity = u32::MAX)
+    }),
+    whole("a hold out of its range", |random| {
+        one_bad_row(random, 6, |random, row| row.hold = bad_hold(random, row))
+    }),
+    whole("a hold of 0", |random| one_bad_row(random, 6, |_, row| row.hold = 0)),
+    whole("a hold one above its range", |random| {
+        one_bad_row(random, 6, |_, row| row.hold = row.cost.min(MOST_HOLD) + 1)
+    }),
+    whole("a hold of 4,294,967,295", |random| {
+        one_bad_row(random, 6, |_, row| row.hold = u32::MAX)
+    }),
+    whole("a hold of 65,536", |random| {
+        let count = object_count(random);
+        let mut rows = good_rows(random, count);
+        let at = place(random, count);
+        rows[at].cost = random.words(MOST_HOLD, 1_000_000);
+        rows[at].hold = MOST_HOLD;
+        imported(rows)
+    }),
+    whole("a hold out of its range, and a cost", |random| {
+        one_bad_row(random, 7, |random, row| {
+            row.hold = bad_hold(random, row);
+            row.cost = bad_cost(random);
+        })
+    }),
+    whole("a hold out of its range, and a validity", |random| {
+        one_bad_row(random, 6, |random, row| {
+            row.hold = bad_hold(random, row);
+            row.validity = bad_validity(random);
+        })
     }),
     whole("equal ids", equal_ids),
     whole("spoiled rows", |random| {
@@ -224,10 +254,14 @@ pub const KINDS: &[Kind] = &[
     line("an empty line", |_, _| b"\r\n".to_vec()),
     line("one field", |random, _| text(format!("{}\r\n", random.words(0, 9)))),
     line("two fields", |_, good| {
-        let (two, _) = good.rsplit_once(',').expect("three fields");
-        text(format!("{two}\r\n"))
+        let two: Vec<&str> = good.split(',').take(2).collect();
+        text(format!("{}\r\n", two.join(",")))
     }),
-    line("four fields", |random, good| {
+    line("three fields, as before there were holds", |_, good| {
+        let (three, _) = good.rsplit_once(',').expect("four fields");
+        text(format!("{three}\r\n"))
+    }),
+    line("five fields", |random, good| {
         text(format!("{good},{}\r\n", random.words(0, 99)))
     }),
     line("a comma after the last field", |_, good| text(format!("{good},\r\n"))),
@@ -251,16 +285,18 @@ pub const KINDS: &[Kind] = &[
     }),
     line("CR, LF or CR LF within the line", |random, good| {
         // Not within the last field, where CR LF would leave a line of the form.
-        let last_field = good.rfind(',').expect("three fields") + 1;
+        let last_field = good.rfind(',').expect("four fields") + 1;
         let at = random.between(0, last_field);
         let mark = random.pick(&["\r", "\n", "\r\n"]);
         text(format!("{}{mark}{}\r\n", &good[..at], &good[at..]))
     }),
     line("a header in the place of a line", |_, _| {
-        b"id,cost,validity\r\n".to_vec()
+        b"id,cost,validity,hold\r\n".to_vec()
     }),
     // What stands before the first line, or after the last.
-    whole("a header", |random| before_the_lines(random, b"id,cost,validity\r\n")),
+    whole("a header", |random| {
+        before_the_lines(random, b"id,cost,validity,hold\r\n")
+    }),
     whole("a byte order mark", |random| before_the_lines(random, b"\xEF\xBB\xBF")),
     whole("something after the last line", after_the_lines),
     whole("a line by itself that is none", |random| {
@@ -327,7 +363,7 @@ fn good_rows(random: &mut Random, count: usize) -> Vec<ObjectRow> {
     object_rows(random, count, times)
 }
 
-/// Rows of any count and with any numbers, for sheets that get 17, since that comes before 4, 7, 8 and 9.
+/// Rows of any count and with any numbers, for sheets that get 17, since that comes before 4, 7, 6, 8 and 9.
 fn any_rows(random: &mut Random) -> Vec<ObjectRow> {
     let count = match random.below(10) {
         0 => random.between(MOST_OBJECTS, 120),
@@ -358,7 +394,7 @@ fn without_end(row: &ObjectRow) -> String {
 fn with_field(random: &mut Random, row: &ObjectRow, which: usize, text: fn(&mut Random, &str) -> Vec<u8>) -> Vec<u8> {
     let line = without_end(row);
     let mut fields: Vec<Vec<u8>> = line.split(',').map(|field| field.as_bytes().to_vec()).collect();
-    fields[which] = text(random, line.split(',').nth(which).expect("three fields"));
+    fields[which] = text(random, line.split(',').nth(which).expect("four fields"));
     let mut line = fields.join(&b',');
     line.extend(b"\r\n");
     line
@@ -379,7 +415,7 @@ fn spoiled_at_a_line(random: &mut Random, spoil: impl Fn(&mut Random, &ObjectRow
 
 /// A line that is not of the form, also where what is before it has no end.
 fn another_bad_line(random: &mut Random) -> Vec<u8> {
-    text(random.pick(&["x\r\n", "x,1,2\r\n", "\"1\",2,3\r\n", "-1,2\r\n"]))
+    text(random.pick(&["x\r\n", "x,1,2,1\r\n", "\"1\",2,3,1\r\n", "-1,2\r\n"]))
 }
 
 /// So many lines, with a bad one at this place.
@@ -406,7 +442,7 @@ fn equal_ids(random: &mut Random) -> Sheet {
     refused_sheet(sheet(&rows).into_bytes(), refused_at(9, later))
 }
 
-/// More than 64 lines, of rows that may have faults, since 4 comes before 7, 8 and 9.
+/// More than 64 lines, of rows that may have faults, since 4 comes before 7, 6, 8 and 9.
 fn too_many_lines(random: &mut Random, count: usize) -> Sheet {
     let rows = any_rows_of(random, count);
     refused_sheet(sheet(&rows).into_bytes(), refused(4))
@@ -427,23 +463,22 @@ fn lines_of(random: &mut Random, length: usize) -> Vec<u8> {
     bytes
 }
 
-/// The bytes of "0,0,0" and of "10000,1000000000,1000000000", with CR LF.
-const SHORTEST_LINE: usize = 7;
-const LONGEST_LINE: usize = 29;
+/// The bytes of "0,0,0,0" and of "10000,1000000000,1000000000,1000000000", with CR LF.
+const SHORTEST_LINE: usize = 9;
+const LONGEST_LINE: usize = 40;
 
 /// A line of the form, with just so many bytes.
 fn line_of(random: &mut Random, length: usize) -> Vec<u8> {
-    let digits = length - 4;
-    let of_id = random.between(1.max(digits.saturating_sub(20)), 5.min(digits - 2));
-    let others = digits - of_id;
-    let of_cost = random.between(1.max(others.saturating_sub(10)), 10.min(others - 1));
-    let number = |digits: usize| "1".repeat(digits);
-    text(format!(
-        "{},{},{}\r\n",
-        number(of_id),
-        number(of_cost),
-        number(others - of_cost)
-    ))
+    // What is left for digits by three commas, CR and LF. Each field gets as many as leave enough, and not too many,
+    // for those after it.
+    let mut digits = length - 5;
+    let mut fields = Vec::new();
+    for (most, after) in [(5, 3), (10, 2), (10, 1), (10, 0)] {
+        let of_field = random.between(1.max(digits.saturating_sub(10 * after)), most.min(digits - after));
+        fields.push("1".repeat(of_field));
+        digits -= of_field;
+    }
+    text(format!("{}\r\n", fields.join(",")))
 }
 
 /// So many digits, of which the first is not 0.
@@ -454,7 +489,13 @@ fn digits(random: &mut Random, length: usize) -> Vec<u8> {
 }
 
 fn a_number_that_fills_the_file(random: &mut Random) -> Sheet {
-    let (before, after) = random.pick(&[("", ",1,2\r\n"), ("1,", ",2\r\n"), ("1,1,", "\r\n"), ("1,1,", "")]);
+    let (before, after) = random.pick(&[
+        ("", ",1,2,1\r\n"),
+        ("1,", ",2,1\r\n"),
+        ("1,1,", ",1\r\n"),
+        ("1,1,2,", "\r\n"),
+        ("1,1,2,", ""),
+    ]);
     let length = MOST_BYTES - before.len() - after.len();
     let bytes = [text(before), digits(random, length), text(after)].concat();
     refused_sheet(bytes, refused_at(17, 0))
@@ -505,7 +546,7 @@ fn count_of_ends(bytes: &[u8]) -> usize {
 fn odd_lines(random: &mut Random) -> Sheet {
     let mut bytes = Vec::new();
     for _ in 0..random.between(1, 5) {
-        let fields = random.pick(&[3, 3, 3, 3, 3, 3, 3, 3, 3, 3, 3, 3, 2, 4]);
+        let fields = random.pick(&[4, 4, 4, 4, 4, 4, 4, 4, 4, 4, 4, 4, 3, 5]);
         for which in 0..fields {
             if which > 0 {
                 bytes.push(b',');
@@ -519,10 +560,11 @@ fn odd_lines(random: &mut Random) -> Sheet {
 }
 
 fn odd_field(random: &mut Random) -> Vec<u8> {
-    let usual = ["0", "1", "2", "3", "9", "10", "500", "65535", "999999", "1000000"];
+    let usual = [
+        "0", "1", "1", "2", "3", "9", "10", "500", "65535", "65536", "65537", "999999", "1000000",
+    ];
     let odd = [
         "00",
-        "65536",
         "1000001",
         "4294967295",
         "4294967296",

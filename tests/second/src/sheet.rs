@@ -1,4 +1,4 @@
-//! The reseller's sheet: lines of id, cost and validity, separated by commas and each ended by CR LF. Refusal 17.
+//! The reseller's sheet: lines of id, cost, validity and hold, separated by commas and each ended by CR LF. Refusal 17.
 
 use std::str::{self, FromStr};
 
@@ -8,7 +8,7 @@ use crate::writing::put;
 /// What ends every line.
 const END: &str = "\r\n";
 
-/// Reads a sheet: 2, then 17 on every line there is, then 4, then 7, 8 and 9 row by row.
+/// Reads a sheet: 2, then 17 on every line there is, then 4, then 7, 6, 8 and 9 row by row.
 pub fn import(bytes: &[u8]) -> Result<Vec<ObjectRow>, Refusal> {
     if bytes.len() > MOST_BYTES {
         return Err(refused(2));
@@ -21,8 +21,8 @@ pub fn import(bytes: &[u8]) -> Result<Vec<ObjectRow>, Refusal> {
     Ok(rows)
 }
 
-/// Writes a table as a sheet at the start of the buffer and tells how many bytes that takes. Checks 4, 7, 8 and 9, then
-/// 16; what is refused leaves the buffer as it was.
+/// Writes a table as a sheet at the start of the buffer and tells how many bytes that takes. Checks 4, 7, 6, 8 and 9,
+/// then 16; what is refused leaves the buffer as it was.
 pub fn export(count: usize, rows: &[ObjectRow], buffer: &mut [u8]) -> Result<usize, Refusal> {
     let used = check_table(count, rows)?;
     put(sheet(used).as_bytes(), buffer)
@@ -30,7 +30,7 @@ pub fn export(count: usize, rows: &[ObjectRow], buffer: &mut [u8]) -> Result<usi
 
 /// The sheet of these rows, good or bad.
 pub fn sheet(rows: &[ObjectRow]) -> String {
-    let line = |row: &ObjectRow| format!("{},{},{}{END}", row.id, row.cost, row.validity);
+    let line = |row: &ObjectRow| format!("{},{},{},{}{END}", row.id, row.cost, row.validity, row.hold);
     rows.iter().map(line).collect()
 }
 
@@ -50,13 +50,14 @@ pub fn lines(bytes: &[u8]) -> Vec<&[u8]> {
 /// The row of a line, or none where it is not of the form.
 fn row(line: &[u8]) -> Option<ObjectRow> {
     let fields: Vec<&str> = str::from_utf8(line).ok()?.strip_suffix(END)?.split(',').collect();
-    let [id, cost, validity] = fields[..] else {
+    let [id, cost, validity, hold] = fields[..] else {
         return None;
     };
     Some(ObjectRow {
         id: number(id)?,
         cost: number(cost)?,
         validity: number(validity)?,
+        hold: number(hold)?,
     })
 }
 
@@ -72,7 +73,7 @@ mod tests {
     use super::*;
 
     fn row(id: u16, cost: u32, validity: u32) -> ObjectRow {
-        ObjectRow { id, cost, validity }
+        ObjectRow::plain(id, cost, validity)
     }
 
     fn refusal(bytes: impl AsRef<[u8]>) -> Refusal {
@@ -81,13 +82,17 @@ mod tests {
 
     /// So many lines, each of them good.
     fn good_lines(count: usize) -> String {
-        (0..count).map(|id| format!("{id},1,2\r\n")).collect()
+        (0..count).map(|id| format!("{id},1,2,1\r\n")).collect()
     }
 
     #[test]
     fn a_sheet() {
-        let rows = vec![row(40, 1, 20), row(0, 1_000_000, 2), row(65_535, 10, 1_000_000)];
-        let text = "40,1,20\r\n0,1000000,2\r\n65535,10,1000000\r\n";
+        let rows = vec![
+            row(40, 1, 20),
+            ObjectRow::held(0, 1_000_000, 2, 65_536),
+            ObjectRow::held(65_535, 10, 1_000_000, 10),
+        ];
+        let text = "40,1,20,1\r\n0,1000000,2,65536\r\n65535,10,1000000,10\r\n";
         assert_eq!(import(text.as_bytes()), Ok(rows.clone()));
         assert_eq!(sheet(&rows), text);
     }
@@ -116,9 +121,10 @@ mod tests {
             "99999999999999999999999999999999999999999999999999",
         ] {
             for line in [
-                format!("{field},1,2\r\n"),
-                format!("1,{field},2\r\n"),
-                format!("1,1,{field}\r\n"),
+                format!("{field},1,2,1\r\n"),
+                format!("1,{field},2,1\r\n"),
+                format!("1,1,{field},1\r\n"),
+                format!("1,1,2,{field}\r\n"),
             ] {
                 assert_eq!(refusal(&line), refused_at(17, 0), "{line:?}");
                 assert_eq!(refusal(good_lines(5) + &line), refused_at(17, 5), "{line:?}");
@@ -135,14 +141,18 @@ mod tests {
             ",,\r\n",
             "1\r\n",
             "1,1\r\n",
+            "1,1,2\r\n",
             "1,1,2,\r\n",
+            "1,1,2,1,\r\n",
+            ",1,1,2,1\r\n",
             ",1,1,2\r\n",
-            "1,1,2,3\r\n",
-            "1,1,2\r\r\n",
-            "1,1,2\n\r\n",
-            "1,1\r\n,2\r\n",
-            "1;1;2\r\n",
-            "id,cost,validity\r\n",
+            "1,1,2,1,1\r\n",
+            "1,1,2,1\r\r\n",
+            "1,1,2,1\n\r\n",
+            "1,1\r\n,2,1\r\n",
+            "1,1,2\r\n,1\r\n",
+            "1;1;2;1\r\n",
+            "id,cost,validity,hold\r\n",
         ] {
             assert_eq!(refusal(line), refused_at(17, 0), "{line:?}");
             assert_eq!(
@@ -151,13 +161,13 @@ mod tests {
                 "{line:?}"
             );
         }
-        assert_eq!(refusal(b"1,1,\xFF2\r\n"), refused_at(17, 0));
+        assert_eq!(refusal(b"1,1,\xFF2,1\r\n"), refused_at(17, 0));
     }
 
     #[test]
     fn lines_that_are_not_ended() {
         for end in ["", "\r", "\n", "\n\r", " "] {
-            let line = format!("9,1,2{end}");
+            let line = format!("9,1,2,1{end}");
             assert_eq!(refusal(&line), refused_at(17, 0), "{line:?}");
             assert_eq!(refusal(good_lines(3) + &line), refused_at(17, 3), "{line:?}");
             assert_eq!(refusal(line.clone() + &good_lines(3)), refused_at(17, 0), "{line:?}");
@@ -169,14 +179,28 @@ mod tests {
 
     #[test]
     fn numbers_at_their_limits() {
-        assert_eq!(import(b"65535,1,2\r\n"), Ok(vec![row(65_535, 1, 2)]));
-        assert_eq!(refusal("65536,1,2\r\n"), refused_at(17, 0));
-        assert_eq!(refusal("1,4294967295,2\r\n"), refused(7));
-        assert_eq!(refusal("1,4294967296,2\r\n"), refused_at(17, 0));
-        assert_eq!(refusal("1,1,4294967295\r\n"), refused(8));
-        assert_eq!(refusal("1,1,4294967296\r\n"), refused_at(17, 0));
-        assert_eq!(refusal("1,0,2\r\n"), refused(7));
-        assert_eq!(refusal("1,1,0\r\n"), refused(8));
+        assert_eq!(import(b"65535,1,2,1\r\n"), Ok(vec![row(65_535, 1, 2)]));
+        assert_eq!(refusal("65536,1,2,1\r\n"), refused_at(17, 0));
+        assert_eq!(refusal("1,4294967295,2,1\r\n"), refused(7));
+        assert_eq!(refusal("1,4294967296,2,1\r\n"), refused_at(17, 0));
+        assert_eq!(refusal("1,1,4294967295,1\r\n"), refused(8));
+        assert_eq!(refusal("1,1,4294967296,1\r\n"), refused_at(17, 0));
+        assert_eq!(refusal("1,0,2,1\r\n"), refused(7));
+        assert_eq!(refusal("1,1,0,1\r\n"), refused(8));
+    }
+
+    #[test]
+    fn holds_at_their_limits() {
+        assert_eq!(
+            import(b"1,65536,2,65536\r\n"),
+            Ok(vec![ObjectRow::held(1, 65_536, 2, 65_536)])
+        );
+        assert_eq!(refusal("1,65537,2,65537\r\n"), refused(6));
+        assert_eq!(import(b"1,7,2,7\r\n"), Ok(vec![ObjectRow::held(1, 7, 2, 7)]));
+        assert_eq!(refusal("1,7,2,8\r\n"), refused(6));
+        assert_eq!(refusal("1,7,2,0\r\n"), refused(6));
+        assert_eq!(refusal("1,1,2,4294967295\r\n"), refused(6));
+        assert_eq!(refusal("1,1,2,4294967296\r\n"), refused_at(17, 0));
     }
 
     #[test]
@@ -185,34 +209,43 @@ mod tests {
         assert_eq!(import(good_lines(64).as_bytes()).map(|rows| rows.len()), Ok(64));
         assert_eq!(refusal(good_lines(65)), refused(4));
         let mut bad = good_lines(70);
-        bad.push_str("1,2\r\n");
+        bad.push_str("1,2,3\r\n");
         assert_eq!(refusal(bad), refused_at(17, 70), "17 of every line comes before 4");
-        assert_eq!(refusal("1,0,2\r\n".repeat(65)), refused(4), "4 comes before 7, 8 and 9");
+        assert_eq!(
+            refusal("1,0,2,1\r\n".repeat(65)),
+            refused(4),
+            "4 comes before 7, 6, 8 and 9"
+        );
     }
 
     #[test]
     fn lengths_at_their_limits() {
         assert_eq!(refusal("1".repeat(4096)), refused_at(17, 0));
         assert_eq!(refusal("1".repeat(4097)), refused(2));
-        assert_eq!(refusal(format!("1,1,{}\r\n", "9".repeat(4090))), refused_at(17, 0));
-        let full = "0,0,0\r\n".repeat(585) + "\r";
+        assert_eq!(refusal(format!("1,1,2,{}\r\n", "9".repeat(4088))), refused_at(17, 0));
+        let full = "0,0,0,0\r\n".repeat(455) + "\r";
         assert_eq!(full.len(), 4096);
-        assert_eq!(refusal(&full), refused_at(17, 585));
+        assert_eq!(refusal(&full), refused_at(17, 455));
         assert_eq!(refusal(full + "\n"), refused(2), "2 comes before 17");
     }
 
     #[test]
     fn faults_of_rows_after_all_lines() {
-        assert_eq!(refusal("1,1,2\r\n1,0,1\r\n"), refused_at(7, 1));
-        assert_eq!(refusal("1,1,2\r\n1,1,1\r\n"), refused_at(8, 1));
-        assert_eq!(refusal("1,1,2\r\n1,1,2\r\n2,0,0\r\n"), refused_at(9, 1));
-        assert_eq!(refusal("1,0,2\r\n2,01,2\r\n"), refused_at(17, 1), "17 comes before 7");
+        assert_eq!(refusal("1,1,2,1\r\n1,0,1,0\r\n"), refused_at(7, 1));
+        assert_eq!(refusal("1,1,2,1\r\n1,1,1,0\r\n"), refused_at(6, 1));
+        assert_eq!(refusal("1,1,2,1\r\n1,1,1,1\r\n"), refused_at(8, 1));
+        assert_eq!(refusal("1,1,2,1\r\n1,1,2,1\r\n2,0,0,0\r\n"), refused_at(9, 1));
+        assert_eq!(
+            refusal("1,0,2,1\r\n2,01,2,1\r\n"),
+            refused_at(17, 1),
+            "17 comes before 7"
+        );
     }
 
     #[test]
     fn a_buffer_too_small_exact_and_larger() {
-        let rows = [row(1, 10, 200), row(2, 1, 2)];
-        let text = "1,10,200\r\n2,1,2\r\n";
+        let rows = [ObjectRow::held(1, 10, 200, 10), row(2, 1, 2)];
+        let text = "1,10,200,10\r\n2,1,2,1\r\n";
         for length in [0, 1, 7, 10, text.len() - 1] {
             let mut buffer = vec![0xEE; length];
             assert_eq!(export(2, &rows, &mut buffer), Err(refused(16)));
@@ -232,6 +265,7 @@ mod tests {
             (0, vec![], refused(4)),
             (65, vec![row(1, 1, 2); 65], refused(4)),
             (2, vec![row(1, 1, 2), row(2, 0, 0)], refused_at(7, 1)),
+            (2, vec![row(1, 1, 2), ObjectRow::held(2, 1, 1, 0)], refused_at(6, 1)),
             (2, vec![row(1, 1, 2), row(2, 1, 1)], refused_at(8, 1)),
             (2, vec![row(1, 1, 2), row(1, 1, 2)], refused_at(9, 1)),
         ] {
@@ -244,9 +278,26 @@ mod tests {
     }
 
     #[test]
+    fn the_longest_sheet() {
+        let rows: Vec<ObjectRow> = (0..64)
+            .map(|k| ObjectRow::held(65_535 - k, 1_000_000, 1_000_000, 65_536))
+            .collect();
+        assert_eq!(sheet(&rows).len(), 1856);
+        assert_eq!(export(64, &rows, &mut [0; 1856]), Ok(1856));
+        assert_eq!(export(64, &rows, &mut [0; 1855]), Err(refused(16)));
+    }
+
+    #[test]
     fn both_ways_round() {
         let rows: Vec<ObjectRow> = (0..64)
-            .map(|k| row(65_535 - 1000 * k, 1 << (k % 20), 1_000_000 >> (k % 19)))
+            .map(|k| {
+                ObjectRow::held(
+                    65_535 - 1000 * k,
+                    1 << (k % 20),
+                    1_000_000 >> (k % 19),
+                    1 << (k % 17).min(k % 20),
+                )
+            })
             .collect();
         for count in 1..=64 {
             let mut buffer = [0; 2000];

@@ -2,7 +2,7 @@
 
 use crate::planning::PlanRow;
 use crate::running::{Job, Object, Run};
-use crate::tables::MOST_OBJECTS;
+use crate::tables::{MOST_HOLD, MOST_OBJECTS};
 
 /// A run state: the clock, the count, and 64 rows, of which those beyond the count are zero or none.
 #[derive(Clone, Copy, PartialEq, Eq, Debug)]
@@ -47,12 +47,16 @@ pub enum Condition {
     DeadlineAtMostPeriod,
     DeadlinePlusPeriodIsValidity,
     ValidityAtMostAMillion,
+    HoldAtLeast1,
+    HoldAtMostCost,
+    HoldAtMost65536,
     NextReleaseBelowPeriod,
     LeftAtMostCost,
     HeldSampleBelowValidity,
     SampleInHandBelowValidity,
     IdleSampleIs0,
     IdleNotLapsed,
+    OneInItsHold,
     BeyondCountIsZero,
 }
 
@@ -136,14 +140,25 @@ pub fn broken(state: &RunState) -> Vec<Condition> {
         }
     }
     holds(
+        Condition::OneInItsHold,
+        used.iter().filter(|row| is_in_hold(row)).count() <= 1,
+    );
+    holds(
         Condition::BeyondCountIsZero,
         beyond.iter().all(|row| *row == StateRow::default()),
     );
     broken
 }
 
+/// Whether the job of a row, if there is one, has done its first unit and not yet all of its hold. The row may be any:
+/// with more work left than the cost nothing has been done.
+fn is_in_hold(row: &StateRow) -> bool {
+    let done = i64::from(row.planned.cost) - i64::from(row.left);
+    row.left > 0 && 1 <= done && done < i64::from(row.planned.hold)
+}
+
 /// The conditions on a row in use, and whether each of them holds.
-fn conditions_of_row(clock: u32, row: &StateRow) -> [(Condition, bool); 11] {
+fn conditions_of_row(clock: u32, row: &StateRow) -> [(Condition, bool); 14] {
     let planned = &row.planned;
     let validity = u64::from(planned.validity);
     let is_young = |sample| from_to(sample, clock) < validity;
@@ -161,6 +176,9 @@ fn conditions_of_row(clock: u32, row: &StateRow) -> [(Condition, bool); 11] {
             u64::from(planned.deadline) + u64::from(planned.period) == validity,
         ),
         (Condition::ValidityAtMostAMillion, planned.validity <= 1_000_000),
+        (Condition::HoldAtLeast1, planned.hold >= 1),
+        (Condition::HoldAtMostCost, planned.hold <= planned.cost),
+        (Condition::HoldAtMost65536, planned.hold <= MOST_HOLD),
         (
             Condition::NextReleaseBelowPeriod,
             from_to(clock, row.next) < u64::from(planned.period),
@@ -222,6 +240,7 @@ fn object_taken_up(clock: u32, row: &StateRow) -> Object {
 #[cfg(test)]
 mod tests {
     use super::*;
+    use crate::held_numbers::{HELD, WAITING, WAITING_FIRSTS};
     use crate::numbers::{FIGURE_2, PLANS};
     use crate::running::Value;
     use crate::tables::ObjectRow;
@@ -229,9 +248,19 @@ mod tests {
     fn started(objects: &[(u16, u32, u32)], clock: u32, firsts: &[u32]) -> Run {
         let rows: Vec<ObjectRow> = objects
             .iter()
-            .map(|&(id, cost, validity)| ObjectRow { id, cost, validity })
+            .map(|&(id, cost, validity)| ObjectRow::plain(id, cost, validity))
             .collect();
         Run::start(rows.len(), &rows, clock, firsts).unwrap()
+    }
+
+    /// The tables of both files of numbers that our way plans.
+    fn planned_tables() -> Vec<Vec<ObjectRow>> {
+        let plain = PLANS.iter().filter(|numbers| numbers.answers.is_ok());
+        let held = HELD.iter().filter(|numbers| numbers.more_less.is_ok());
+        plain
+            .map(|numbers| numbers.rows())
+            .chain(held.map(|numbers| numbers.rows()))
+            .collect()
     }
 
     #[test]
@@ -297,9 +326,10 @@ mod tests {
     #[test]
     fn every_state_of_a_run_is_acceptable_and_taken_up_it_goes_on_the_same() {
         for clock in [0, u32::MAX, u32::MAX - 20] {
-            for numbers in PLANS.iter().filter(|numbers| numbers.answers.is_ok()) {
-                let firsts = vec![0; numbers.objects.len()];
-                let mut run = started(numbers.objects, clock, &firsts);
+            for rows in planned_tables() {
+                // The last first, so that those ahead may have to wait for its hold.
+                let firsts: Vec<u32> = (0..rows.len()).map(|place| u32::from(place + 1 < rows.len())).collect();
+                let mut run = Run::start(rows.len(), &rows, clock, &firsts).unwrap();
                 for instant in 0..60 {
                     let stolen = instant % 7 > 3 || instant % 11 > 7;
                     let mut again = taken_up(&shown(&run)).expect("acceptable");
@@ -341,5 +371,57 @@ mod tests {
             [Condition::HeldSampleBelowValidity]
         );
         assert_eq!(after(&|s| s.rows[63].skips = 1), [Condition::BeyondCountIsZero]);
+        assert_eq!(after(&|s| s.rows[63].planned.hold = 1), [Condition::BeyondCountIsZero]);
+    }
+
+    #[test]
+    fn each_condition_on_holds_is_told_apart() {
+        let run = started(&[(1, 100, 400), (2, 70_000, 400_000), (3, 5, 500_000)], 5, &[0, 0, 0]);
+        let good = shown(&run);
+        let after = |change: &dyn Fn(&mut RunState)| {
+            let mut state = good;
+            change(&mut state);
+            broken(&state)
+        };
+        assert_eq!(after(&|s| s.rows[0].planned.hold = 0), [Condition::HoldAtLeast1]);
+        assert_eq!(after(&|s| s.rows[0].planned.hold = 100), []);
+        assert_eq!(after(&|s| s.rows[0].planned.hold = 101), [Condition::HoldAtMostCost]);
+        assert_eq!(after(&|s| s.rows[1].planned.hold = 65_536), []);
+        assert_eq!(
+            after(&|s| s.rows[1].planned.hold = 65_537),
+            [Condition::HoldAtMost65536]
+        );
+    }
+
+    /// The second in its hold of 3, with one unit done of 4, and the first released.
+    #[test]
+    fn at_most_one_is_in_its_hold() {
+        let rows: Vec<ObjectRow> = WAITING
+            .iter()
+            .map(|&(id, cost, validity, hold)| ObjectRow::held(id, cost, validity, hold))
+            .collect();
+        let mut run = Run::start(2, &rows, 5, &WAITING_FIRSTS).unwrap();
+        run.slot(false);
+        let good = shown(&run);
+        assert_eq!((good.rows[1].left, broken(&good)), (3, vec![]));
+        let with_first = |left: u32, hold: u32| {
+            let mut state = good;
+            state.rows[0].planned = PlanRow {
+                cost: 3,
+                hold,
+                ..state.rows[0].planned
+            };
+            state.rows[0].left = left;
+            state.rows[0].sample = if left > 0 { state.clock } else { 0 };
+            broken(&state)
+        };
+        assert_eq!(with_first(0, 3), [], "no job in hand");
+        assert_eq!(with_first(3, 3), [], "not begun");
+        assert_eq!(with_first(2, 3), [Condition::OneInItsHold], "one unit done of three");
+        assert_eq!(with_first(1, 3), [Condition::OneInItsHold], "two units done of three");
+        assert_eq!(with_first(2, 2), [Condition::OneInItsHold], "one unit done of two");
+        assert_eq!(with_first(1, 2), [], "the hold is over, and a unit is left");
+        assert_eq!(with_first(2, 1), [], "a hold of 1");
+        assert_eq!(with_first(4, 3), [Condition::LeftAtMostCost], "less than nothing done");
     }
 }

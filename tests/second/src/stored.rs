@@ -1,6 +1,6 @@
 //! Random stored tables, good and damaged.
 
-use paper::tables::{ObjectRow, MARK, MOST_BYTES, MOST_OBJECTS, RECORD, TRAILER};
+use paper::tables::{ObjectRow, MARK, MOST_BYTES, MOST_HOLD, MOST_OBJECTS, RECORD, TRAILER};
 
 use crate::generate::{bad_cost, bad_validity, object_count, object_rows, overload_rows, place, Times};
 use crate::random::Random;
@@ -8,16 +8,11 @@ use crate::random::Random;
 /// A stored table in its parts, which need not fit together.
 struct Draft {
     before: Vec<u8>,
-    records: Vec<Record>,
+    records: Vec<ObjectRow>,
     between: Vec<u8>,
     distance: u32,
     count: u16,
     mark: [u8; 2],
-}
-
-struct Record {
-    row: ObjectRow,
-    spare: u16,
 }
 
 /// A stored table of any kind.
@@ -113,7 +108,7 @@ fn good_draft(random: &mut Random) -> Draft {
         distance: (TRAILER + RECORD * count + between.len()) as u32,
         count: count as u16,
         mark: MARK,
-        records: rows.into_iter().map(|row| Record { row, spare: 0 }).collect(),
+        records: rows,
         before,
         between,
     }
@@ -138,10 +133,11 @@ impl Draft {
     fn bytes(&self) -> Vec<u8> {
         let mut bytes = self.before.clone();
         for record in &self.records {
-            bytes.extend(record.row.id.to_le_bytes());
-            bytes.extend(record.spare.to_le_bytes());
-            bytes.extend(record.row.cost.to_le_bytes());
-            bytes.extend(record.row.validity.to_le_bytes());
+            bytes.extend(record.id.to_le_bytes());
+            // Every hold of a draft, good or bad, is one that the two bytes can tell.
+            bytes.extend(((record.hold - 1) as u16).to_le_bytes());
+            bytes.extend(record.cost.to_le_bytes());
+            bytes.extend(record.validity.to_le_bytes());
         }
         bytes.extend(&self.between);
         bytes.extend(self.distance.to_le_bytes());
@@ -162,15 +158,22 @@ fn spoil_records(random: &mut Random, draft: &mut Draft) {
     let mut at = place(random, count);
     for _ in 0..random.between(1, 4) {
         match random.below(4) {
-            0 => draft.records[at].spare = random.pick(&[1, 255, 256, 0x8000, 0xFFFF]),
-            1 => draft.records[at].row.cost = bad_cost(random),
-            2 => draft.records[at].row.validity = bad_validity(random),
-            _ => draft.records[at].row.id = draft.records[place(random, count)].row.id,
+            0 => draft.records[at].hold = hold_above(random, draft.records[at].cost),
+            1 => draft.records[at].cost = bad_cost(random),
+            2 => draft.records[at].validity = bad_validity(random),
+            _ => draft.records[at].id = draft.records[place(random, count)].id,
         }
         if random.one_in(2) {
             at = place(random, count);
         }
     }
+}
+
+/// A hold above this cost, by one or by more, if the two bytes can tell one; otherwise the longest, which is good.
+fn hold_above(random: &mut Random, cost: u32) -> u32 {
+    let least = cost.min(MOST_HOLD - 1) + 1;
+    let any = random.words(least, MOST_HOLD);
+    random.pick(&[least, least, any, MOST_HOLD])
 }
 
 /// Faults in one, two or all three of the parts of the trailer.

@@ -8,7 +8,7 @@ pub const MOST_OBJECTS: usize = 64;
 pub const MOST_BYTES: usize = 4096;
 /// The bytes of the trailer: distance 4, count 2, mark 2.
 pub const TRAILER: usize = 8;
-/// The bytes of a record: id 2, spare 2, cost 4, validity 4.
+/// The bytes of a record: id 2, hold minus 1 in 2, cost 4, validity 4.
 pub const RECORD: usize = 12;
 /// The last two bytes of a stored table.
 pub const MARK: [u8; 2] = [0x4D, 0x4C];
@@ -16,6 +16,8 @@ pub const MARK: [u8; 2] = [0x4D, 0x4C];
 pub const COST: RangeInclusive<u32> = 1..=1_000_000;
 /// The range of a validity.
 pub const VALIDITY: RangeInclusive<u32> = 2..=1_000_000;
+/// The longest hold, and the longest that the two bytes of a record can tell.
+pub const MOST_HOLD: u32 = 65_536;
 
 /// An object row: what a table says of one object.
 #[derive(Clone, Copy, PartialEq, Eq, Debug, Default)]
@@ -23,6 +25,29 @@ pub struct ObjectRow {
     pub id: u16,
     pub cost: u32,
     pub validity: u32,
+    /// How many units a job of it does at a stretch, once it has done the first of them.
+    pub hold: u32,
+}
+
+impl ObjectRow {
+    /// A row as 01 has it: its hold of 1 keeps nobody waiting.
+    pub const fn plain(id: u16, cost: u32, validity: u32) -> ObjectRow {
+        ObjectRow::held(id, cost, validity, 1)
+    }
+
+    pub const fn held(id: u16, cost: u32, validity: u32, hold: u32) -> ObjectRow {
+        ObjectRow {
+            id,
+            cost,
+            validity,
+            hold,
+        }
+    }
+}
+
+/// The holds that an object of this cost may have: none, if the cost is 0.
+pub fn holds(cost: u32) -> RangeInclusive<u32> {
+    1..=cost.min(MOST_HOLD)
 }
 
 /// A refusal: its number and the place told.
@@ -64,15 +89,12 @@ pub struct Part<'a> {
 pub fn read(bytes: &[u8]) -> Result<Vec<ObjectRow>, Refusal> {
     let part = records_part(bytes)?;
     let mut rows = Vec::new();
-    for (place, record) in bytes[part].chunks(RECORD).enumerate() {
-        let spare = little_endian(&record[2..4]);
-        if spare != 0 {
-            return Err(refused_at(6, place));
-        }
+    for record in bytes[part].chunks(RECORD) {
         let row = ObjectRow {
             id: little_endian(&record[0..2]) as u16,
             cost: little_endian(&record[4..8]) as u32,
             validity: little_endian(&record[8..12]) as u32,
+            hold: little_endian(&record[2..4]) as u32 + 1,
         };
         check_row(row, &rows)?;
         rows.push(row);
@@ -109,7 +131,8 @@ pub fn records_part(bytes: &[u8]) -> Result<Range<usize>, Refusal> {
     Ok(start..start + RECORD * count as usize)
 }
 
-/// The rows in use of a table that comes from outside: checks 4, 7, 8 and 9. What is beyond the count is not read.
+/// The rows in use of a table that comes from outside: checks 4, 7, 6, 8 and 9. What is beyond the count is not
+/// read.
 ///
 /// The second door is this with the length of the list as the count.
 pub fn check_table(count: usize, rows: &[ObjectRow]) -> Result<&[ObjectRow], Refusal> {
@@ -143,11 +166,14 @@ pub fn choose<'a>(site: &'a [u8], factory: &'a [u8]) -> Part<'a> {
     }
 }
 
-/// Checks 7, 8 and 9 on the row that comes after the earlier ones.
+/// Checks 7, 6, 8 and 9, in this order, on the row that comes after the earlier ones.
 fn check_row(row: ObjectRow, earlier: &[ObjectRow]) -> Result<(), Refusal> {
     let place = earlier.len();
     if !COST.contains(&row.cost) {
         return Err(refused_at(7, place));
+    }
+    if !holds(row.cost).contains(&row.hold) {
+        return Err(refused_at(6, place));
     }
     if !VALIDITY.contains(&row.validity) {
         return Err(refused_at(8, place));
@@ -175,7 +201,7 @@ mod tests {
         let mut bytes = vec![0xEE; before];
         for row in rows {
             bytes.extend(row.id.to_le_bytes());
-            bytes.extend([0, 0]);
+            bytes.extend((row.hold as u16).wrapping_sub(1).to_le_bytes());
             bytes.extend(row.cost.to_le_bytes());
             bytes.extend(row.validity.to_le_bytes());
         }
@@ -188,7 +214,7 @@ mod tests {
     }
 
     fn row(id: u16, cost: u32, validity: u32) -> ObjectRow {
-        ObjectRow { id, cost, validity }
+        ObjectRow::plain(id, cost, validity)
     }
 
     /// As many rows as asked for, each of them good.
@@ -250,10 +276,10 @@ mod tests {
     fn faults_of_a_record_in_the_order_of_the_checks() {
         let mut bytes = stored(&[row(5, 1, 2), row(5, 0, 1), row(6, 0, 2)], 0, 0);
         bytes[RECORD + 3] = 1;
+        assert_eq!(read(&bytes), Err(refused_at(7, 1)), "7 comes before 6");
+        bytes[RECORD + 4] = 1;
         assert_eq!(read(&bytes), Err(refused_at(6, 1)));
         bytes[RECORD + 3] = 0;
-        assert_eq!(read(&bytes), Err(refused_at(7, 1)));
-        bytes[RECORD + 4] = 1;
         assert_eq!(read(&bytes), Err(refused_at(8, 1)));
         bytes[RECORD + 8] = 2;
         assert_eq!(read(&bytes), Err(refused_at(9, 1)));
@@ -270,6 +296,49 @@ mod tests {
         assert_eq!(alone(1_000_001, 2), Err(refused(7)));
         assert_eq!(alone(1, 1), Err(refused(8)));
         assert_eq!(alone(1, 1_000_001), Err(refused(8)));
+    }
+
+    #[test]
+    fn the_two_bytes_of_a_hold_tell_it_minus_1() {
+        let with_bytes = |cost: u32, told: u16| {
+            let mut bytes = stored(&[row(5, 1, 9), row(6, cost, 1_000_000)], 0, 0);
+            bytes[RECORD + 2..RECORD + 4].copy_from_slice(&told.to_le_bytes());
+            read(&bytes).map(|rows| rows[1].hold)
+        };
+        assert_eq!(with_bytes(1, 0), Ok(1));
+        assert_eq!(with_bytes(1, 1), Err(refused_at(6, 1)));
+        assert_eq!(with_bytes(3, 2), Ok(3));
+        assert_eq!(with_bytes(3, 3), Err(refused_at(6, 1)));
+        assert_eq!(with_bytes(257, 256), Ok(257));
+        assert_eq!(with_bytes(65_535, 0xFFFF), Err(refused_at(6, 1)));
+        assert_eq!(with_bytes(65_536, 0xFFFF), Ok(65_536));
+        assert_eq!(with_bytes(1_000_000, 0xFFFF), Ok(65_536));
+    }
+
+    #[test]
+    fn ranges_of_holds_in_memory() {
+        let alone = |cost, hold| check_table(1, &[ObjectRow::held(0, cost, 2, hold)]).map(|_| ());
+        for (cost, most) in [
+            (1, 1),
+            (7, 7),
+            (65_535, 65_535),
+            (65_536, 65_536),
+            (65_537, 65_536),
+            (1_000_000, 65_536),
+        ] {
+            assert_eq!(alone(cost, 1), Ok(()));
+            assert_eq!(alone(cost, most), Ok(()));
+            assert_eq!(alone(cost, 0), Err(refused(6)));
+            assert_eq!(alone(cost, most + 1), Err(refused(6)));
+            assert_eq!(alone(cost, 65_537), Err(refused(6)));
+            assert_eq!(alone(cost, u32::MAX), Err(refused(6)));
+        }
+        assert_eq!(alone(0, 0), Err(refused(7)), "7 comes before 6");
+        assert_eq!(
+            check_table(1, &[ObjectRow::held(0, 1, 0, 2)]),
+            Err(refused(6)),
+            "6 comes before 8"
+        );
     }
 
     #[test]

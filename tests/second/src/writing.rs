@@ -2,8 +2,8 @@
 
 use crate::tables::{check_table, refused, ObjectRow, Refusal, MARK, RECORD, TRAILER};
 
-/// Writes a table at the start of the buffer and tells how many bytes that takes. Checks 4, 7, 8 and 9, then 16; what
-/// is refused leaves the buffer as it was.
+/// Writes a table at the start of the buffer and tells how many bytes that takes. Checks 4, 7, 6, 8 and 9, then 16;
+/// what is refused leaves the buffer as it was.
 pub fn write(count: usize, rows: &[ObjectRow], buffer: &mut [u8]) -> Result<usize, Refusal> {
     let used = check_table(count, rows)?;
     put(&stored(used), buffer)
@@ -15,7 +15,8 @@ fn stored(rows: &[ObjectRow]) -> Vec<u8> {
     let mut bytes = Vec::new();
     for row in rows {
         bytes.extend(row.id.to_le_bytes());
-        bytes.extend([0, 0]);
+        // A good hold is from 1 to 65,536, so one less fits in the two bytes.
+        bytes.extend(((row.hold - 1) as u16).to_le_bytes());
         bytes.extend(row.cost.to_le_bytes());
         bytes.extend(row.validity.to_le_bytes());
     }
@@ -39,7 +40,7 @@ mod tests {
     use crate::tables::{read, refused_at};
 
     fn row(id: u16, cost: u32, validity: u32) -> ObjectRow {
-        ObjectRow { id, cost, validity }
+        ObjectRow::plain(id, cost, validity)
     }
 
     /// What writing to a buffer of so many bytes 0xEE answers, and the buffer afterwards.
@@ -71,6 +72,17 @@ mod tests {
     }
 
     #[test]
+    fn holds_are_written_minus_1() {
+        for (hold, told) in [(1, [0, 0]), (2, [1, 0]), (257, [0, 1]), (65_536, [0xFF, 0xFF])] {
+            let rows = [ObjectRow::held(7, 65_536, 1_000_000, hold)];
+            let (answer, buffer) = written(1, &rows, 20);
+            assert_eq!(answer, Ok(20));
+            assert_eq!(buffer[..8], [7, 0, told[0], told[1], 0, 0, 1, 0]);
+            assert_eq!(read(&buffer), Ok(rows.to_vec()));
+        }
+    }
+
+    #[test]
     fn a_buffer_too_small_exact_and_larger() {
         let one = [row(9, 1, 2)];
         for length in [0, 1, 8, 12, 19] {
@@ -97,6 +109,14 @@ mod tests {
         assert_eq!(refusal(0, &[]), refused(4));
         assert_eq!(refusal(65, &[row(1, 1, 2); 65]), refused(4));
         assert_eq!(refusal(2, &[row(1, 1, 2), row(2, 0, 2)]), refused_at(7, 1));
+        assert_eq!(
+            refusal(2, &[row(1, 1, 2), ObjectRow::held(2, 1, 1, 0)]),
+            refused_at(6, 1)
+        );
+        assert_eq!(
+            refusal(2, &[row(1, 1, 2), ObjectRow::held(2, 1, 1, 2)]),
+            refused_at(6, 1)
+        );
         assert_eq!(refusal(2, &[row(1, 1, 2), row(2, 1, 1)]), refused_at(8, 1));
         assert_eq!(refusal(2, &[row(1, 1, 2), row(1, 1, 2)]), refused_at(9, 1));
     }
@@ -109,7 +129,9 @@ mod tests {
 
     #[test]
     fn both_ways_round() {
-        let rows: Vec<ObjectRow> = (0..64).map(|k| row(65_535 - k, 1_000_000 - u32::from(k), 2)).collect();
+        let rows: Vec<ObjectRow> = (0..64)
+            .map(|k| ObjectRow::held(65_535 - k, 1_000_000 - u32::from(k), 2, 65_536 - 1000 * u32::from(k)))
+            .collect();
         for count in 1..=64 {
             let (answer, buffer) = written(count, &rows, 800);
             assert_eq!(answer, Ok(8 + 12 * count));

@@ -18,14 +18,14 @@ export-requires c κs = search needs
 array-share-prefix-bytes : tie.Need-array-share-prefix-bytes
 array-share-prefix-bytes c =
     let w = c .before .export in
-    let few : w .result .size ≤ 1472 = rw (w .ensures .1) (exported-within (c .before .before .before .args .table) _) in
+    let few : w .result .size ≤ 1856 = rw (w .ensures .1) (exported-within (c .before .before .before .args .table) _) in
     search needs
 
 slice-aggregate-text : tie.Need-slice-aggregate-text
 slice-aggregate-text c =
     let w = c .before .before .export in
-    let few : w .result .size ≤ 1472 = rw (w .ensures .1) (exported-within (c .before .before .before .before .args .table) _) in
-    let long : length (w .last .1 .0) ≡ 1472 = search needs in
+    let few : w .result .size ≤ 1856 = rw (w .ensures .1) (exported-within (c .before .before .before .before .args .table) _) in
+    let long : length (w .last .1 .0) ≡ 1856 = search needs in
     sym (length-take-le (w .result .size) (w .last .1 .0) (omega (arith, few, long)))
 
 text-requires : tie.Need-text-requires

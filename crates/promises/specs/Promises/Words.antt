@@ -16,11 +16,13 @@ pub use Rattle.rules.specs.Deadlines.{noPlanRow, planOf}
 pub use Rattle.rules.specs.RunState.{usedRows, acceptable}
 pub use Rattle.rules.specs.Run.{tick, startOf, begunOf, releasedOf, stepOne, stepTwo, stepThree, slotOf, stepped, steppedOf}
 pub use Rattle.rules.specs.Run.{readingOf, trueReading}
--- the order, the deadline, what is planned, and the grounds of an answer
+-- the order, the deadline, what is planned, what was before request 6, and the grounds of an answer
 pub use Rattle.promises.specs.OnlyOrder.{Ordered}
 pub use Rattle.promises.specs.Exactly.{FirstWithout}
 pub use Rattle.promises.specs.Plans.{PlannedRows}
-pub use Rattle.promises.specs.PlanExactly.{ordered, plansIn, placesIn, IdsDiffer, PlannedBehind}
+pub use Rattle.rules.proofs.Lists.{Every}
+pub use Rattle.promises.specs.HoldsOfOne.{HoldsOne, plan01, step01}
+pub use Rattle.promises.specs.PlanExactly.{ordered, plansIn, placesIn, IdsDiffer, PlannedBetween}
 pub use Rattle.promises.specs.StartExactly.{GroundOf}
 pub use Rattle.promises.specs.ReadExactly.{NoneHas}
 -- the run after so many slots, calls, and objects of a run

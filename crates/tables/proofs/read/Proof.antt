@@ -1,4 +1,4 @@
--- `tables::read` meets its contract: the trailer's refusal, or the answer of the checks on the filled arrays. Assumes nothing.
+-- `tables::read` meets its contract: the trailer's refusal, or the answer of the checks on the filled array. Assumes nothing.
 use mathlib.Core.Path.{sym, _∙_}
 use native.Mathlib.Omega.{arith}
 use Rattle.rules.proofs.Trailer.{readable}
@@ -36,25 +36,15 @@ rows-from-requires c κs =
     let k = readable (m .before .before .before .before .args .bytes .now) (sym (m .before .before .check-trailer .ensures) ∙ m .enum-told .given .1) in
     (omega (arith, c .before .records-count .ensures), omega (arith, c .records-start .ensures, c .before .records-count .ensures))
 
-spares-from-requires : tie.Need-spares-from-requires
-spares-from-requires c κs =
-    let m = c .before .before .before in
-    let k = readable (m .before .before .before .before .args .bytes .now) (sym (m .before .before .check-trailer .ensures) ∙ m .enum-told .given .1) in
-    (omega (arith, c .before .before .records-count .ensures), omega (arith, c .before .records-start .ensures, c .before .before .records-count .ensures))
-
-check-records-requires : tie.Need-check-records-requires
-check-records-requires c κs = search needs
-
-answer-requires : tie.Need-answer-requires
-answer-requires c κs = search needs
+check-answer-requires : tie.Need-check-answer-requires
+check-answer-requires c κs = search needs
 
 returns-2 : tie.Need-returns-2
 returns-2 c =
-    let v = c .before in
-    let m = v .before .before .before .before .before in
-    c .answer .ensures
-    ∙ read-is (m .before .before .before .before .args .bytes .now) _ _ _ _ _ (sym (m .before .before .check-trailer .ensures) ∙ m .enum-told .given .1)
-    (v .before .before .before .before .records-count .ensures) (v .before .before .before .records-start .ensures) (v .before .before .rows-from .ensures) (v .before .spares-from .ensures) (v .check-records .ensures)
+    let m = c .before .before .before .before in
+    c .check-answer .ensures
+    ∙ read-is (m .before .before .before .before .args .bytes .now) _ _ _ (sym (m .before .before .check-trailer .ensures) ∙ m .enum-told .given .1)
+    (c .before .before .before .records-count .ensures) (c .before .before .records-start .ensures) (c .before .rows-from .ensures)
 
 pub read-spec : {M : Type 1} → statement M
 read-spec =
@@ -68,7 +58,5 @@ read-spec =
     records-count-requires
     records-start-requires
     rows-from-requires
-    spares-from-requires
-    check-records-requires
-    answer-requires
+    check-answer-requires
     returns-2)

@@ -44,6 +44,9 @@ array-read-t18 c = search needs
 array-read-t21 : tie.Need-array-read-t21 Inv-loop μ-loop
 array-read-t21 c = search needs
 
+array-read-t24 : tie.Need-array-read-t24 Inv-loop μ-loop
+array-read-t24 c = search needs
+
 returns : tie.Need-returns Inv-loop μ-loop
 returns c = search needs
 
@@ -64,4 +67,5 @@ row-spec =
     array-read-t15
     array-read-t18
     array-read-t21
+    array-read-t24
     returns)

@@ -37,6 +37,12 @@ element-copy-out-is c = search needs
 ran-requires : tie.Need-ran-requires Inv-loop μ-loop
 ran-requires c κs = search needs
 
+in-hold-requires : tie.Need-in-hold-requires Inv-loop μ-loop
+in-hold-requires c κs = search needs
+
+owner-at-requires : tie.Need-owner-at-requires Inv-loop μ-loop
+owner-at-requires c κs = search needs
+
 add-i : tie.Need-add-i Inv-loop μ-loop
 add-i c = search needs
 
@@ -64,6 +70,8 @@ owner-spec =
     mul-is
     element-copy-out-is
     ran-requires
+    in-hold-requires
+    owner-at-requires
     add-i
     loop-less
     loop-again

@@ -5,10 +5,10 @@ use Rattle.replay.proofs.tallies.tallied.Statement.{statement}
 use Rattle.replay.proofs.tallies.tallied.Tie as tie
 
 abbrev Inv-loop : tie.InvT-loop
-Inv-loop before after rows₀ i₀ rows i = i ≤ 64
+Inv-loop before after owner rows₀ i₀ rows i = i ≤ 64
 
 abbrev μ-loop : tie.MeasureT-loop
-μ-loop before after rows₀ i₀ rows i = 64 - i
+μ-loop before after owner rows₀ i₀ rows i = 64 - i
 
 loop-holds : tie.Need-loop-holds Inv-loop μ-loop
 loop-holds c = search needs
@@ -30,6 +30,9 @@ mul-is c = search needs
 
 element-copy-out-is : tie.Need-element-copy-out-is Inv-loop μ-loop
 element-copy-out-is c = search needs
+
+kept-behind-requires : tie.Need-kept-behind-requires Inv-loop μ-loop
+kept-behind-requires c κs = search needs
 
 tallied-row-requires : tie.Need-tallied-row-requires Inv-loop μ-loop
 tallied-row-requires c κs = search needs
@@ -65,6 +68,7 @@ tallied-spec =
     element-copy-out-was
     mul-is
     element-copy-out-is
+    kept-behind-requires
     tallied-row-requires
     mul-rows
     array-set-from-rows

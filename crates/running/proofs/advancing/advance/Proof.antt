@@ -1,7 +1,7 @@
 -- `running::advancing::advance` meets its contract. Assumes nothing.
 use borrow.Author.Needs.{needs}
 use Rattle.rules.specs.Run.{advancedOf}
-use Rattle.stepping.proofs.Checked.{passes, fails, count-fits}
+use Rattle.stepping.proofs.Checked.{passes, fails, count-fits, one-holds}
 use Rattle.running.proofs.advancing.advance.Statement.{statement}
 use Rattle.running.proofs.advancing.advance.Tie as tie
 
@@ -16,7 +16,9 @@ unfolding advancedOf
 returns c = simp (fails (c .before .before .is-acceptable .ensures) (c .before .if1 .taken), c .not-run-state .ensures)
 
 advance-rows-requires : tie.Need-advance-rows-requires
-advance-rows-requires c κs = count-fits _ (passes (c .before .is-acceptable .ensures) (c .if1 .left))
+advance-rows-requires c κs =
+    let a = passes (c .before .is-acceptable .ensures) (c .if1 .left) in
+    (count-fits _ a, one-holds _ a)
 
 returns-2 : tie.Need-returns-2
 unfolding advancedOf

@@ -1,43 +1,49 @@
 -- `running::advancing::advance_rows` meets its contract: between slots `Going` holds, within a slot `Releasing`, `Serving` and `Aging`.
 -- Assumes nothing.
 use Prim.Native.Nat.{_-_}
-use mathlib.Core.Path.{_∙_}
+use mathlib.Core.Path.{refl, _∙_}
 use mathlib.Core.Logic.{⊎-elim}
 use native.Mathlib.Omega.{arith}
 use borrow.Author.Needs.{needs}
 use borrow.Author.Tests.{eq-eqb, ne-eqb}
 use lib.ListN.{length, getD, length-map}
 use Rattle.rules.specs.Run.{noRunRow}
-use Rattle.running.proofs.Going.{Going, going-none, going-on, slots-end, Releasing, releasing-none, releasing-same, releasing-stored, Serving, serving-none, serving-idle, serving-less, serving-used, Aging, aging-none, aging-same, aging-stored}
+use Rattle.running.proofs.Front.{front-start}
+use Rattle.running.proofs.Going.{Going, going-none, going-on, slots-end, Releasing, releasing-none, releasing-same, releasing-stored, Serving, serving-none, serving-in, serving-idle, serving-less, serving-used, serving-last, Aging, aging-none, aging-same, aging-stored}
 use Rattle.running.proofs.advancing.advance_rows.Statement.{statement}
 use Rattle.running.proofs.advancing.advance_rows.Tie as tie
 
 abbrev Inv-release : tie.InvT-release
-Inv-release stolen count rows₀ clock lapses₀ due₀ lapse₀ first₀ k after releases i₀ rows lapses due lapse first i = Releasing clock count rows₀ releases rows lapses due lapse first i
+Inv-release stolen held count rows₀ clock lapses₀ due₀ lapse₀ holding first₀ k after releases i₀ rows lapses due lapse first i = Releasing clock count rows₀ releases rows lapses due lapse holding first i
 
 abbrev μ-release : tie.MeasureT-release
-μ-release stolen count rows₀ clock lapses₀ due₀ lapse₀ first₀ k after releases i₀ rows lapses due lapse first i = releases - i
+μ-release stolen held count rows₀ clock lapses₀ due₀ lapse₀ holding first₀ k after releases i₀ rows lapses due lapse first i = releases - i
 
 abbrev Inv-serve : tie.InvT-serve
-Inv-serve stolen count rows₀ clock lapses₀ due lapse₀ first₀ k after releases seek₀ rows lapses lapse first seek = Serving clock count (getD stolen k 0) seek₀ rows₀ rows lapses due lapse first seek
+Inv-serve stolen held count rows₀ clock lapses₀ due lapse₀ holding₀ first₀ k after releases seek₀ rows lapses lapse holding first seek = Serving clock count (getD stolen k 0) seek₀ holding₀ rows₀ rows lapses due lapse holding first seek
 
 abbrev μ-serve : tie.MeasureT-serve
-μ-serve stolen count rows₀ clock lapses₀ due lapse₀ first₀ k after releases seek₀ rows lapses lapse first seek = seek - first
+μ-serve stolen held count rows₀ clock lapses₀ due lapse₀ holding₀ first₀ k after releases seek₀ rows lapses lapse holding first seek = seek - first
 
 abbrev Inv-age : tie.InvT-age
-Inv-age stolen count rows₀ clock lapses₀ due lapse₀ first k after releases seek looked i₀ rows lapses lapse i = Aging clock count rows₀ due first looked rows lapses lapse i
+Inv-age stolen held count rows₀ clock lapses₀ due lapse₀ holding first k after releases seek looked i₀ rows lapses lapse i = Aging clock count rows₀ due holding first looked rows lapses lapse i
 
 abbrev μ-age : tie.MeasureT-age
-μ-age stolen count rows₀ clock lapses₀ due lapse₀ first k after releases seek looked i₀ rows lapses lapse i = looked - i
+μ-age stolen held count rows₀ clock lapses₀ due lapse₀ holding first k after releases seek looked i₀ rows lapses lapse i = looked - i
 
 abbrev Inv-slots : tie.InvT-slots
-Inv-slots stolen count rows₀ clock₀ lapses₀ due₀ lapse₀ first₀ k₀ rows clock lapses due lapse first k = Going (record { clock = clock₀; count = count; rows = rows₀ }) stolen count rows clock lapses due lapse first k
+Inv-slots stolen held count rows₀ clock₀ lapses₀ due₀ lapse₀ holding₀ first₀ k₀ rows clock lapses due lapse holding first k = Going (record { clock = clock₀; count = count; rows = rows₀ }) stolen count rows clock lapses due lapse holding first k
 
 abbrev μ-slots : tie.MeasureT-slots
-μ-slots stolen count rows₀ clock₀ lapses₀ due₀ lapse₀ first₀ k₀ rows clock lapses due lapse first k = length stolen - k
+μ-slots stolen held count rows₀ clock₀ lapses₀ due₀ lapse₀ holding₀ first₀ k₀ rows clock lapses due lapse holding first k = length stolen - k
+
+holder-requires : tie.Need-holder-requires Inv-release μ-release Inv-serve μ-serve Inv-age μ-age Inv-slots μ-slots
+holder-requires c κs = search needs
 
 slots-holds : tie.Need-slots-holds Inv-release μ-release Inv-serve μ-serve Inv-age μ-age Inv-slots μ-slots
-slots-holds c = going-none (c .before .before .pre) (simp length-map at (c .before .before .good .0 .1 .1 .1 .1 .0 .1 .0 .1)) (c .before .before .good .0 .1 .1 .0 .1)
+slots-holds c =
+    going-none (c .before .before .before .before .pre .0) (simp length-map at (c .before .before .before .before .good .0 .1 .1 .1 .1 .0 .1 .0 .1)) (c .before .before .before .before .good .0 .1 .1 .0 .1)
+    (front-start _ _ _ _ (c .before .before .holder .ensures) _ refl (⊎-elim (λ u. u .1 ∙ simp (u .0 .taken)) (λ u. u .1 ∙ simp (u .0 .left)) (c .if1 .came)))
 
 wrapping-add-u32-requires : tie.Need-wrapping-add-u32-requires Inv-release μ-release Inv-serve μ-serve Inv-age μ-age Inv-slots μ-slots
 wrapping-add-u32-requires c κs = search needs
@@ -64,7 +70,7 @@ release-less : tie.Need-release-less Inv-release μ-release Inv-serve μ-serve I
 release-less c = search needs
 
 release-again : tie.Need-release-again Inv-release μ-release Inv-serve μ-serve Inv-age μ-age Inv-slots μ-slots
-release-again c = releasing-same (c .before .before .before .before .before .release .inv) _ (c .before .before .before .before .release-test .taken) _ (rw (c .before .before .before .before .before .before .before .wrapping-add-u32 .ensures) at (c .nearer .ensures .0)) (c .before .if1 .taken) (rw (c .before .before .before .before .before .before .before .wrapping-add-u32 .ensures) at (c .nearer .ensures .1))
+release-again c = releasing-same (c .before .before .before .before .before .release .inv) _ (c .before .before .before .before .release-test .taken) _ (rw (c .before .before .before .before .before .before .before .wrapping-add-u32 .ensures) at (c .nearer .ensures .0)) (c .before .if2 .taken) (rw (c .before .before .before .before .before .before .before .wrapping-add-u32 .ensures) at (c .nearer .ensures .1))
 
 released-requires : tie.Need-released-requires Inv-release μ-release Inv-serve μ-serve Inv-age μ-age Inv-slots μ-slots
 released-requires c κs = search needs
@@ -90,6 +96,9 @@ array-write-lapses c = search needs
 nearer-requires-3 : tie.Need-nearer-requires-3 Inv-release μ-release Inv-serve μ-serve Inv-age μ-age Inv-slots μ-slots
 nearer-requires-3 c κs = search needs
 
+first-now-requires : tie.Need-first-now-requires Inv-release μ-release Inv-serve μ-serve Inv-age μ-age Inv-slots μ-slots
+first-now-requires c κs = search needs
+
 add-i-2 : tie.Need-add-i-2 Inv-release μ-release Inv-serve μ-serve Inv-age μ-age Inv-slots μ-slots
 add-i-2 c = search needs
 
@@ -97,7 +106,7 @@ release-less-2 : tie.Need-release-less-2 Inv-release μ-release Inv-serve μ-ser
 release-less-2 c = search needs
 
 release-again-2 : tie.Need-release-again-2 Inv-release μ-release Inv-serve μ-serve Inv-age μ-age Inv-slots μ-slots
-release-again-2 c = releasing-stored (c .before .before .before .before .before .before .before .before .before .release .inv) _ (c .before .before .before .before .before .before .before .before .release-test .taken) _ (rw (c .before .before .before .before .before .before .before .before .before .before .before .wrapping-add-u32 .ensures) at (c .before .before .before .nearer2 .ensures .0)) _ _ _ _ (c .before .before .before .before .released .ensures) (rw (c .before .before .before .before .before .before .before .before .before .before .before .wrapping-add-u32 .ensures) at (c .before .before .before .nearer2 .ensures .1)) (c .before .before .lapse-of .ensures) (c .before .nearer3 .ensures .0) (c .before .nearer3 .ensures .1) (⊎-elim (λ u. omega (arith, u .0 .taken, u .1)) (λ u. omega (arith, u .1)) (c .if2 .came)) (⊎-elim (λ u. omega (arith, u .1)) (λ u. omega (arith, u .0 .left, u .1)) (c .if2 .came))
+release-again-2 c = releasing-stored (c .before .before .before .before .before .before .before .before .before .release .inv) _ (c .before .before .before .before .before .before .before .before .release-test .taken) _ (rw (c .before .before .before .before .before .before .before .before .before .before .before .wrapping-add-u32 .ensures) at (c .before .before .before .nearer2 .ensures .0)) _ _ _ _ (c .before .before .before .before .released .ensures) (rw (c .before .before .before .before .before .before .before .before .before .before .before .wrapping-add-u32 .ensures) at (c .before .before .before .nearer2 .ensures .1)) (c .before .before .lapse-of .ensures) (c .before .nearer3 .ensures .0) (c .before .nearer3 .ensures .1) (c .first-now .ensures)
 
 shared-slice-read-if3 : tie.Need-shared-slice-read-if3 Inv-release μ-release Inv-serve μ-serve Inv-age μ-age Inv-slots μ-slots
 shared-slice-read-if3 c = search needs
@@ -118,7 +127,7 @@ serve-less : tie.Need-serve-less Inv-release μ-release Inv-serve μ-serve Inv-a
 serve-less c = search needs
 
 serve-again : tie.Need-serve-again Inv-release μ-release Inv-serve μ-serve Inv-age μ-age Inv-slots μ-slots
-serve-again c = serving-idle (c .before .before .before .before .serve .inv) _ (c .before .before .before .serve-test .taken) (c .if4 .taken)
+serve-again c = serving-idle (c .before .before .before .before .before .serve .inv) _ (c .before .before .before .before .serve-test .taken) (c .if4 .taken)
 
 sub-rows : tie.Need-sub-rows Inv-release μ-release Inv-serve μ-serve Inv-age μ-age Inv-slots μ-slots
 sub-rows c = search needs
@@ -133,34 +142,46 @@ serve-less-2 : tie.Need-serve-less-2 Inv-release μ-release Inv-serve μ-serve I
 serve-less-2 c = search needs
 
 serve-again-2 : tie.Need-serve-again-2 Inv-release μ-release Inv-serve μ-serve Inv-age μ-age Inv-slots μ-slots
-serve-again-2 c = serving-less (c .before .before .before .before .before .before .before .before .serve .inv) _ (c .before .before .before .before .before .before .before .serve-test .taken) (c .before .before .if5 .taken)
+serve-again-2 c = serving-less (c .before .before .before .before .before .before .before .before .before .before .before .serve .inv) _ (c .before .before .before .before .before .before .before .before .before .before .serve-test .taken) (c .before .before .before .if5 .taken)
 
 served-requires : tie.Need-served-requires Inv-release μ-release Inv-serve μ-serve Inv-age μ-age Inv-slots μ-slots
 served-requires c κs = search needs
 
 mul-rows-3 : tie.Need-mul-rows-3 Inv-release μ-release Inv-serve μ-serve Inv-age μ-age Inv-slots μ-slots
-mul-rows-3 c = search needs
+mul-rows-3 c = search (needs, serving-in (c .before .before .before .before .before .before .before .before .before .before .serve .inv) (c .before .before .before .before .before .before .before .before .before .serve-test .taken))
 
 array-set-from-rows-2 : tie.Need-array-set-from-rows-2 Inv-release μ-release Inv-serve μ-serve Inv-age μ-age Inv-slots μ-slots
-array-set-from-rows-2 c = search needs
+array-set-from-rows-2 c = search (needs, serving-in (c .before .before .before .before .before .before .before .before .before .before .serve .inv) (c .before .before .before .before .before .before .before .before .before .serve-test .taken))
 
 lapse-of-requires-2 : tie.Need-lapse-of-requires-2 Inv-release μ-release Inv-serve μ-serve Inv-age μ-age Inv-slots μ-slots
 lapse-of-requires-2 c κs = search needs
 
 mul-lapses-2 : tie.Need-mul-lapses-2 Inv-release μ-release Inv-serve μ-serve Inv-age μ-age Inv-slots μ-slots
-mul-lapses-2 c = search needs
+mul-lapses-2 c = search (needs, serving-in (c .before .before .before .before .before .before .before .before .before .before .before .serve .inv) (c .before .before .before .before .before .before .before .before .before .before .serve-test .taken))
 
 array-write-lapses-2 : tie.Need-array-write-lapses-2 Inv-release μ-release Inv-serve μ-serve Inv-age μ-age Inv-slots μ-slots
-array-write-lapses-2 c = search needs
+array-write-lapses-2 c = search (needs, serving-in (c .before .before .before .before .before .before .before .before .before .before .before .serve .inv) (c .before .before .before .before .before .before .before .before .before .before .serve-test .taken))
 
 nearer-requires-4 : tie.Need-nearer-requires-4 Inv-release μ-release Inv-serve μ-serve Inv-age μ-age Inv-slots μ-slots
 nearer-requires-4 c κs = search needs
 
+in-hold-requires : tie.Need-in-hold-requires Inv-release μ-release Inv-serve μ-serve Inv-age μ-age Inv-slots μ-slots
+in-hold-requires c κs = search needs
+
+first-after-requires : tie.Need-first-after-requires Inv-release μ-release Inv-serve μ-serve Inv-age μ-age Inv-slots μ-slots
+first-after-requires c κs = search needs
+
 serve-less-3 : tie.Need-serve-less-3 Inv-release μ-release Inv-serve μ-serve Inv-age μ-age Inv-slots μ-slots
-serve-less-3 c = search needs
+serve-less-3 c = omega (arith, c .before .before .before .before .before .before .before .before .before .before .before .before .before .before .before .serve-test .taken)
 
 serve-again-3 : tie.Need-serve-again-3 Inv-release μ-release Inv-serve μ-serve Inv-age μ-age Inv-slots μ-slots
-serve-again-3 c = serving-used (c .before .before .before .before .before .before .before .before .before .serve .inv) _ (c .before .before .before .before .before .before .before .before .serve-test .taken) _ _ _ (c .before .before .before .before .before .if4 .left) (c .before .before .served .ensures) (c .before .lapse-of2 .ensures) (c .nearer4 .ensures .0) (c .nearer4 .ensures .1)
+serve-again-3 c = serving-used (c .before .before .before .before .before .before .before .before .before .before .before .before .before .before .before .before .serve .inv) _ (c .before .before .before .before .before .before .before .before .before .before .before .before .before .before .before .serve-test .taken) _ _ _ _ _ (c .before .before .before .before .before .before .before .before .before .before .before .if4 .left) (c .before .before .before .before .before .before .before .served .ensures) (c .before .before .before .before .before .lapse-of2 .ensures) (c .before .before .before .before .nearer4 .ensures .0) (c .before .before .before .before .nearer4 .ensures .1) (c .before .in-hold .ensures) (c .first-after .ensures)
+
+serve-less-4 : tie.Need-serve-less-4 Inv-release μ-release Inv-serve μ-serve Inv-age μ-age Inv-slots μ-slots
+serve-less-4 c = omega (arith, c .before .before .before .before .before .before .before .before .before .before .before .before .before .serve-test .taken)
+
+serve-again-4 : tie.Need-serve-again-4 Inv-release μ-release Inv-serve μ-serve Inv-age μ-age Inv-slots μ-slots
+serve-again-4 c = serving-last (c .before .before .before .before .before .before .before .before .before .before .before .before .before .before .serve .inv) _ (c .before .before .before .before .before .before .before .before .before .before .before .before .before .serve-test .taken) _ _ _ (c .before .before .before .before .before .before .before .before .before .if4 .left) (c .before .before .before .before .before .served .ensures) (c .before .before .before .lapse-of2 .ensures) (c .before .before .nearer4 .ensures .0) (c .before .before .nearer4 .ensures .1) (c .if6 .left)
 
 looks-requires-2 : tie.Need-looks-requires-2 Inv-release μ-release Inv-serve μ-serve Inv-age μ-age Inv-slots μ-slots
 looks-requires-2 c κs = search needs
@@ -187,7 +208,7 @@ age-less : tie.Need-age-less Inv-release μ-release Inv-serve μ-serve Inv-age �
 age-less c = search needs
 
 age-again : tie.Need-age-again Inv-release μ-release Inv-serve μ-serve Inv-age μ-age Inv-slots μ-slots
-age-again c = aging-same (c .before .before .before .before .age .inv) noRunRow (c .before .before .before .age-test .taken) _ (rw (c .before .before .before .before .before .before .before .before .before .before .before .before .before .wrapping-add-u32 .ensures) at (c .nearer5 .ensures .0)) (rw (c .before .before .due-in .ensures) at (c .before .if6 .taken)) (rw (c .before .before .before .before .before .before .before .before .before .before .before .before .before .wrapping-add-u32 .ensures) at (c .nearer5 .ensures .1))
+age-again c = aging-same (c .before .before .before .before .age .inv) noRunRow (c .before .before .before .age-test .taken) _ (rw (c .before .before .before .before .before .before .before .before .before .before .before .before .before .wrapping-add-u32 .ensures) at (c .nearer5 .ensures .0)) (rw (c .before .before .due-in .ensures) at (c .before .if7 .taken)) (rw (c .before .before .before .before .before .before .before .before .before .before .before .before .before .wrapping-add-u32 .ensures) at (c .nearer5 .ensures .1))
 
 mul-aged : tie.Need-mul-aged Inv-release μ-release Inv-serve μ-serve Inv-age μ-age Inv-slots μ-slots
 mul-aged c = search needs
@@ -249,6 +270,7 @@ advance-rows-spec =
     μ-age
     Inv-slots
     μ-slots
+    holder-requires
     slots-holds
     wrapping-add-u32-requires
     looks-requires
@@ -267,6 +289,7 @@ advance-rows-spec =
     mul-lapses
     array-write-lapses
     nearer-requires-3
+    first-now-requires
     add-i-2
     release-less-2
     release-again-2
@@ -289,8 +312,12 @@ advance-rows-spec =
     mul-lapses-2
     array-write-lapses-2
     nearer-requires-4
+    in-hold-requires
+    first-after-requires
     serve-less-3
     serve-again-3
+    serve-less-4
+    serve-again-4
     looks-requires-2
     age-holds
     mul-until

@@ -17,6 +17,9 @@ width-requires-2 c κs = search needs
 width-requires-3 : tie.Need-width-requires-3
 width-requires-3 c κs = search needs
 
+width-requires-4 : tie.Need-width-requires-4
+width-requires-4 c κs = search needs
+
 add-result : tie.Need-add-result
 add-result c = search needs
 
@@ -26,10 +29,13 @@ add-result-2 c = search needs
 add-result-3 : tie.Need-add-result-3
 add-result-3 c = search needs
 
+add-result-4 : tie.Need-add-result-4
+add-result-4 c = search needs
+
 returns : tie.Need-returns
 returns c =
-    let e = line-length (c .before .before .before .before .args .row) in
-    (omega (arith, e, c .before .before .width .ensures, c .before .width2 .ensures, c .width3 .ensures), search needs)
+    let e = line-length (c .before .before .before .before .before .args .row) in
+    (omega (arith, e, c .before .before .before .width .ensures, c .before .before .width2 .ensures, c .before .width3 .ensures, c .width4 .ensures), search needs)
 
 pub line-size-spec : {M : Type 1} → statement M
 line-size-spec =
@@ -39,7 +45,9 @@ line-size-spec =
     width-requires
     width-requires-2
     width-requires-3
+    width-requires-4
     add-result
     add-result-2
     add-result-3
+    add-result-4
     returns)

@@ -10,7 +10,7 @@ use Rattle.sheets.proofs.writing.sheet_size.Statement.{statement}
 use Rattle.sheets.proofs.writing.sheet_size.Tie as tie
 
 abbrev Inv-loop : tie.InvT-loop
-Inv-loop count rows size₀ i₀ size i = (i ≤ count) × ((size ≤ 12884901892 * i) × (size ≡ length (sheetBytes (take i rows))))
+Inv-loop count rows size₀ i₀ size i = (i ≤ count) × ((size ≤ 17179869189 * i) × (size ≡ length (sheetBytes (take i rows))))
 
 abbrev μ-loop : tie.MeasureT-loop
 μ-loop count rows size₀ i₀ size i = count - i

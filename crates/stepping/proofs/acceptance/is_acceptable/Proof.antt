@@ -1,5 +1,5 @@
--- `stepping::acceptance::is_acceptable` meets its contract: `ok` says whether the rows passed so far are in order, and `ids` has their ids.
--- Assumes nothing.
+-- `stepping::acceptance::is_acceptable` meets its contract: `ok` says whether the rows passed so far are in order, `ids` has their ids,
+-- and `holding` says whether one of them is in its hold. Assumes nothing.
 use Prim.Native.Nat.{_-_}
 use mathlib.Core.Path.{refl, sym}
 use lib.ListN.{length-map}
@@ -9,16 +9,16 @@ use Rattle.stepping.proofs.acceptance.is_acceptable.Statement.{statemen
 use Rattle.stepping.proofs.acceptance.is_acceptable.Tie as tie
 
 abbrev Inv-used : tie.InvT-used
-Inv-used run clock count ids₀ ok₀ i₀ ids ok i = UsedTo run ids ok i
+Inv-used run clock count ids₀ ok₀ holding₀ i₀ ids ok holding i = UsedTo run ids ok holding i
 
 abbrev μ-used : tie.MeasureT-used
-μ-used run clock count ids₀ ok₀ i₀ ids ok i = count - i
+μ-used run clock count ids₀ ok₀ holding₀ i₀ ids ok holding i = count - i
 
 abbrev Inv-unused : tie.InvT-unused
-Inv-unused run clock count ids ok₀ k₀ ok k = UnusedTo run ids ok k
+Inv-unused run clock count ids ok₀ holding k₀ ok k = UnusedTo run ids ok holding k
 
 abbrev μ-unused : tie.MeasureT-unused
-μ-unused run clock count ids ok₀ k₀ ok k = 64 - k
+μ-unused run clock count ids ok₀ holding k₀ ok k = 64 - k
 
 returns : tie.Need-returns Inv-used μ-used Inv-unused μ-unused
 returns c = sym (miscounted _ (c .if1 .taken))
@@ -38,6 +38,9 @@ mul-ids c = search needs
 array-write-ids : tie.Need-array-write-ids Inv-used μ-used Inv-unused μ-unused
 array-write-ids c = search needs
 
+in-hold-requires : tie.Need-in-hold-requires Inv-used μ-used Inv-unused μ-unused
+in-hold-requires c κs = search needs
+
 row-ok-requires : tie.Need-row-ok-requires Inv-used μ-used Inv-unused μ-unused
 row-ok-requires c κs = search needs
 
@@ -48,7 +51,7 @@ used-less : tie.Need-used-less Inv-used μ-used Inv-unused μ-unused
 used-less c = search needs
 
 used-again : tie.Need-used-again Inv-used μ-used Inv-unused μ-unused
-used-again c = used-next (c .before .before .before .used .inv) _ (c .before .before .used-test .taken) (c .row-ok .ensures)
+used-again c = used-next (c .before .before .before .before .used .inv) _ (c .before .before .before .used-test .taken) (c .row-ok .ensures) (c .before .in-hold .ensures)
 
 unused-holds : tie.Need-unused-holds Inv-used μ-used Inv-unused μ-unused
 unused-holds c = unused-none (c .before .used .inv) (c .used-test .left)
@@ -91,6 +94,7 @@ is-acceptable-spec =
     element-copy-out-row
     mul-ids
     array-write-ids
+    in-hold-requires
     row-ok-requires
     add-i
     used-less

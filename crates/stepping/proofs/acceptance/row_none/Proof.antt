@@ -9,7 +9,7 @@ is-empty-requires c κs = search needs
 
 returns : tie.Need-returns
 unfolding rowNone
-returns c = simp (c .before .before .before .before .before .before .before .before .before .before .is-empty .ensures)
+returns c = simp (c .before .before .before .before .before .before .before .before .before .before .before .is-empty .ensures)
 
 pub row-none-spec : {M : Type 1} → statement M
 row-none-spec = tie.close (tie.spec is-empty-requires returns)

@@ -1,16 +1,15 @@
 -- `stepping::rows::still_free` meets its contract. Assumes nothing.
-use borrow.Author.Tests.{eq-eqb, ne-eqb}
+use borrow.Author.Needs.{needs}
 use Rattle.stepping.specs.OneRow.{stillFree}
 use Rattle.stepping.proofs.rows.still_free.Statement.{statement}
 use Rattle.stepping.proofs.rows.still_free.Tie as tie
 
+may-work-requires : tie.Need-may-work-requires
+may-work-requires c κs = search needs
+
 returns : tie.Need-returns
 unfolding stillFree
-returns c = simp (eq-eqb _ _ (c .if1 .taken))
-
-returns-2 : tie.Need-returns-2
-unfolding stillFree
-returns-2 c = simp (ne-eqb _ _ (c .if1 .left))
+returns c = simp (c .may-work .ensures)
 
 pub still-free-spec : {M : Type 1} → statement M
-still-free-spec = tie.close (tie.spec returns returns-2)
+still-free-spec = tie.close (tie.spec may-work-requires returns)

@@ -9,6 +9,7 @@ use Rattle.rules.specs.Order.{rowAt}
 use Rattle.rules.specs.Writing.{recordBytes, recordsBytes}
 use Rattle.rules.proofs.Bytes.{records-length, records-next}
 use Rattle.rules.proofs.Put.{put-then}
+use Rattle.tables.proofs.Wrote.{row-ranged}
 use Rattle.tables.proofs.writing.put_records.Statement.{statement}
 use Rattle.tables.proofs.writing.put_records.Tie as tie
 
@@ -35,7 +36,10 @@ put-record-requires c κs =
     let a = c .before .before .before .before .before .args in
     let l = c .before .before .before .loop in
     let e : length (l .buffer) ≡ length (a .buffer .now) = rw (l .inv .1) (length-sets (a .buffer .now) 0 (recordsBytes (take (l .i) (a .t2)))) in
-    omega (arith, e, c .before .before .loop-test .taken, c .before .before .before .before .before .pre)
+    let p = c .before .before .before .before .before .pre in
+    let more = c .before .before .loop-test .taken in
+    let r = row-ranged (a .t2) (a .count) (l .i) (search needs) more (p .2) in
+    (omega (arith, e, more, p .1), r .hold-from, r .hold-to)
 
 add-i : tie.Need-add-i Inv-loop μ-loop
 add-i c = search needs

@@ -6,9 +6,9 @@ use native.Mathlib.Omega.{arith}
 use denote.Ref.{now}
 use lib.ListN.{length, length-map}
 use lib.Seq.{sets, length-sets}
-use Rattle.rules.specs.StoredTable.{recordSize, tableSize, rowsIn, tableVerdict}
+use Rattle.rules.specs.StoredTable.{recordSize, tableSize, countVerdict, rowsIn, tableVerdict}
 use Rattle.rules.specs.Writing.{recordsBytes, trailerBytes, tableBytes}
-use Rattle.rules.proofs.Checks.{few-rows}
+use Rattle.rules.proofs.Checks.{both-accept, few-rows}
 use Rattle.rules.proofs.Put.{rows-refused, room-refused, all-put}
 use Rattle.tables.proofs.Wrote.{table-size, records-trailer}
 use borrow.Author.Needs.{needs}
@@ -39,7 +39,10 @@ returns-2 : tie.Need-returns-2
 returns-2 c = let a = c .before .before .before .before .before .args in room-refused (tableVerdict (a .table)) (tableSize (a .table .count)) (tableBytes (rowsIn (a .table))) (now (a .buffer)) (sym (c .before .before .before .check-table .ensures) ∙ c .before .enum-told .given .1) refl (c .if1 .taken)
 
 put-records-requires : tie.Need-put-records-requires
-put-records-requires c κs = let few = few-rows (c .before .before .before .before .before .before .before .args .table) (sym (c .before .before .before .before .before .check-table .ensures) ∙ c .before .before .before .enum-told .given .1) in (few, omega (arith, c .before .before .if1 .left))
+put-records-requires c κs =
+    let table = c .before .before .before .before .before .before .before .args .table in
+    let formed = sym (c .before .before .before .before .before .check-table .ensures) ∙ c .before .before .before .enum-told .given .1 in
+    (few-rows table formed, omega (arith, c .before .before .if1 .left), both-accept (countVerdict (table .count)) _ formed .1)
 
 put-trailer-requires : tie.Need-put-trailer-requires
 put-trailer-requires c κs =

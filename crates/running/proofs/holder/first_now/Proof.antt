@@ -1,0 +1,12 @@
+-- `running::holder::first_now` meets its contract. Assumes nothing.
+use Rattle.running.proofs.holder.first_now.Statement.{statement}
+use Rattle.running.proofs.holder.first_now.Tie as tie
+
+returns : tie.Need-returns
+returns c = simp (c .if1 .taken)
+
+returns-2 : tie.Need-returns-2
+returns-2 c = simp (c .if1 .left)
+
+pub first-now-spec : {M : Type 1} → statement M
+first-now-spec = tie.close (tie.spec returns returns-2)

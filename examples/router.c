@@ -1,4 +1,4 @@
-/* A router's main loop in small: plan a stored table, run it slot by slot, and print which values are current.
+/* A router's main loop in small: start a run from a stored table, run it slot by slot, and print which values are current.
  *
  * usage: router TABLE SLOTS STOLEN     (STOLEN: a pattern of '.' and 'x', one a slot, repeated) */
 #include "channelfox.h"
@@ -30,7 +30,6 @@ static void print_values(void) {
 
 int main(int argc, char **argv) {
     static uint8_t bytes[4097];
-    uint32_t firsts[CHANNELFOX_ROWS] = {0};
     if (argc != 4 || argv[3][0] == 0) {
         fprintf(stderr, "usage: router TABLE SLOTS STOLEN\n");
         return 2;
@@ -43,10 +42,7 @@ int main(int argc, char **argv) {
     size_t length = fread(bytes, 1, sizeof bytes, file);
     fclose(file);
 
-    channelfox_read_answer table = channelfox_read(bytes, length);
-    if (table.verdict.number != 0)
-        return refused("table", table.verdict);
-    channelfox_run_answer started = channelfox_start(table.table, 4294967290u, firsts, table.table.count);
+    channelfox_run_answer started = channelfox_start_stored(bytes, length, 4294967290u);
     if (started.verdict.number != 0)
         return refused("start", started.verdict);
     run = started.run;

@@ -10,20 +10,20 @@
  * run or the same buffer at the same time.
  * NULL. A pointer that goes with a length must point to that many elements, and with length 0 to anything but NULL. NULL is not
  * looked for: a NULL pointer, as any that does not go with its length, has no defined outcome.
- * Sizes, in bytes: a table 1,032, a plan 1,544, a run 3,344; an object row 16, a planned row 24, a run row 52; the answers a verdict
- * (16) more.
- * Stack, measured: channelfox_advance 28 KB, channelfox_start 22, channelfox_slot 19, channelfox_read_value 16, the plans 11, the others
- * under 4.
- * Padding. There are two bytes of padding behind each `id`, and padding behind `number`, `clock` and `source`: they are not set, so two
- * equal structs may differ under memcmp. Compare field by field.
+ * Sizes, in bytes: a table 1,032, a stored table 1,296, a plan 1,544, a run 3,344; an object row 16, a planned row 24, a run row 52, a
+ * part 24; the answers a verdict (16) more.
+ * Stack, measured: channelfox_start_stored 30 KB, channelfox_start 29, channelfox_advance 28, channelfox_slot 21, channelfox_read_value
+ * 17, the plans 13, the others under 7.
+ * Padding. There are two bytes of padding behind each `id`, and padding behind `number`, `clock` and the `form` of a stored table: they
+ * are not set, so two equal structs may differ under memcmp. Compare field by field.
  * Targets. The library is compiled for x86-64 Linux, for C99 and later and for C++.
  *
  * Refusals (verdict.number; 0 is "accepted"), with the place told:
  *    1 fewer than 8 bytes                                   0
  *    2 more than 4,096 bytes                                0
- *    3 the mark is not 4D 4C                                0
+ *    3 the mark is neither 4D 4C nor 4D 32 (see below)      0
  *    4 count 0 or above 64                                  0
- *    5 distance below 8 + 12 n                              0
+ *    5 distance below 8 + 12 n, in form two 8 + 16 n        0
  *    6 hold outside 1 to its cost, or above 65,536          record
  *    7 cost outside 1 to 1,000,000                          record
  *    8 validity outside 2 to 1,000,000                      record
@@ -36,8 +36,14 @@
  *   15 distance above the number of bytes                   0
  *   16 the buffer is smaller than what is to be written     0
  *   17 line not of the form id,cost,validity,hold CR LF     line, counted from 0
+ *   18 a first release other than 0 in form one             record
  * The stored table is checked for 1 to 5, then 15, then 7, 6, 8, 9 record by record; a sheet for 2, then 17 line by line, then 4, then
- * 7, 6, 8, 9 row by row.
+ * 7, 6, 8, 9 row by row. 3 is also told of a form that is neither one nor two, and in converting of a mark that is not that of the form
+ * converted from. 16 in writing a stored table is a buffer below 8 + 12 n bytes, in form two 8 + 16 n.
+ *
+ * Stored forms. Form one has records of 12 bytes and the mark 4D 4C. Form two has records of 16 bytes, the last 4 being the first release
+ * of the object, and the mark 4D 32. Everything that reads stored bytes reads both; first releases that form one does not have are 0.
+ * Reading, writing and converting do not plan, so that a first release not below its object's period is found only at the start of a run.
  *
  * Holds. Once a job has done its first unit, the core does nothing but that job, in slots not stolen, until it has done `hold` units:
  * the first slots of a job that writes flash, say. 1 is a job that may be set aside after any slot. A hold costs the objects ahead: each
@@ -55,7 +61,7 @@
 extern "C" {
 #endif
 
-#define CHANNELFOX_VERSION "0.7.0"
+#define CHANNELFOX_VERSION "0.8.0"
 
 #define CHANNELFOX_ROWS 64
 
@@ -76,6 +82,15 @@ typedef struct {
     size_t count;
     channelfox_object_row rows[CHANNELFOX_ROWS];
 } channelfox_table;
+
+/* The form of stored bytes: none, one or two. Where a form is handed in, any other number is none. */
+enum { CHANNELFOX_FORM_NONE = 0, CHANNELFOX_FORM_ONE = 1, CHANNELFOX_FORM_TWO = 2 };
+
+typedef struct {
+    uint32_t form; /* CHANNELFOX_FORM_NONE, _ONE or _TWO */
+    channelfox_table table;
+    uint32_t firsts[CHANNELFOX_ROWS]; /* the first release of each row, in the order of the table */
+} channelfox_stored;
 
 typedef struct {
     uint16_t id;
@@ -118,6 +133,11 @@ typedef struct {
 
 typedef struct {
     channelfox_verdict verdict;
+    channelfox_stored stored;
+} channelfox_stored_answer;
+
+typedef struct {
+    channelfox_verdict verdict;
     channelfox_plan plan;
 } channelfox_plan_answer;
 
@@ -141,24 +161,37 @@ typedef struct {
     size_t size; /* bytes written; 0 where refused */
 } channelfox_written;
 
-/* The part chosen: of the site bytes (1), of the factory bytes (2), `size` bytes from `start` on. */
+/* The part chosen: of the site bytes (1), of the factory bytes (2), their form, `size` bytes from `start` on. */
 typedef struct {
     uint32_t source;
+    uint32_t form; /* CHANNELFOX_FORM_NONE, _ONE or _TWO */
     size_t start;
     size_t size;
 } channelfox_part;
 
-/* Reads a stored table. Refusals 1 to 9 and 15, with count 0 and every field zero. Rows beyond the count are zero. */
-channelfox_read_answer channelfox_read(const uint8_t *bytes, size_t length);
+/* Reads a stored table of either form. Refusals 1 to 9 and 15, with form 0, count 0 and every field zero. Rows and first releases beyond
+ * the count are zero. */
+channelfox_stored_answer channelfox_read(const uint8_t *bytes, size_t length);
 
 /* The second door: a list of rows in memory becomes a table. Refusals 4, 7, 6, 8, 9, with count 0 and every field
  * zero. */
 channelfox_read_answer channelfox_rows(const channelfox_object_row *rows, size_t length);
 
-/* Writes a table as stored bytes: n records and the trailer, 8 + 12 n bytes without gap at the start of the buffer, and nothing
- * beyond them is touched. Refusals 4, 7, 6, 8, 9, then 16 where the buffer has fewer bytes, leave the buffer as it is. Rows of the
- * table beyond its count are not read. What is written reads back as the same rows in the same order. */
+/* Writes a table as stored bytes of form one: n records and the trailer, 8 + 12 n bytes without gap at the start of the buffer, and
+ * nothing beyond them is touched. Refusals 4, 7, 6, 8, 9, then 16 where the buffer has fewer bytes, leave the buffer as it is. Rows of
+ * the table beyond its count are not read. What is written reads back as the same rows in the same order. */
 channelfox_written channelfox_write(channelfox_table table, uint8_t *buffer, size_t length);
+
+/* Writes a stored table in the form that it names, in the same way: 8 + 12 n bytes, in form two 8 + 16 n. Refusals 3 where the form is
+ * neither one nor two, 4, 7, 6, 8, 9, then 18 at the first first release other than 0 where the form is one, then 16. First releases
+ * beyond the count are not read, as rows are not. What is written reads back as the same form, rows and first releases. */
+channelfox_written channelfox_write_stored(channelfox_stored stored, uint8_t *buffer, size_t length);
+
+/* Writes stored bytes of the form `from` in the other form at the start of the buffer, and nothing beyond them is touched: one to two
+ * with first releases of 0, two to one without them. Refusals 1, 2, 3 where the mark is not that of `from`, the others of
+ * channelfox_read, then 18 going to form one, then 16, leave the buffer as it is. Bytes of form one without unread bytes, to form two
+ * and back, are the same bytes. 1,032 bytes are always enough. */
+channelfox_written channelfox_convert(const uint8_t *bytes, size_t length, uint32_t from, uint8_t *buffer, size_t buffer_length);
 
 /* Reads a reseller's sheet: lines of id, cost, validity and hold, separated by commas and each ended by CR LF, up to 4,096 bytes. Numbers
  * are decimal digits without leading zero (0 itself is "0"), an id up to 65,535 and the others up to 4,294,967,295; a header, a sign, a
@@ -172,7 +205,8 @@ channelfox_read_answer channelfox_import(const uint8_t *bytes, size_t length);
 channelfox_written channelfox_export(channelfox_table table, uint8_t *buffer, size_t length);
 
 /* The records part of the site table if that reads without refusal, otherwise of the factory table if that one does,
- * otherwise the empty part at the start of the factory bytes (source 2, start 0, size 0). */
+ * otherwise the empty part at the start of the factory bytes (source 2, form 0, start 0, size 0). Records of form one have 12 bytes
+ * each, of form two 16. */
 channelfox_part channelfox_choose(const uint8_t *site, size_t site_length, const uint8_t *factory, size_t factory_length);
 
 /* Plans a table: refusals 4, 7, 6, 8, 9, then 10, with count 0 and every field zero. Rows of the table beyond its count are
@@ -188,12 +222,16 @@ channelfox_plan_answer channelfox_plan_classic(channelfox_table table);
  * 4, 7, 6, 8, 9, with count 0 and every field zero. */
 channelfox_read_answer channelfox_ranked(channelfox_table table);
 
-/* Reads a stored table and plans it: refusals 1 to 10 and 15. */
+/* Reads a stored table of either form and plans it: refusals 1 to 10 and 15, with count 0 and every field zero. */
 channelfox_plan_answer channelfox_plan_stored(const uint8_t *bytes, size_t length);
 
 /* Plans a table and starts a run of it at any clock, with one first release for each object, in priority order, counted
  * from the clock. Refusals 4, 7, 6, 8, 9, 10, then 11, then 12, with count 0 and every field zero or none. */
 channelfox_run_answer channelfox_start(channelfox_table table, uint32_t clock, const uint32_t *firsts, size_t length);
+
+/* Reads a stored table of either form, plans it and starts a run of it at any clock, with the first releases that are stored with it,
+ * each going with its object; 0 in form one. Refusals 1 to 10 and 15, then 12, with count 0 and every field zero or none. */
+channelfox_run_answer channelfox_start_stored(const uint8_t *bytes, size_t length, uint32_t clock);
 
 /* One slot, in place. Refusal 13 leaves the run exactly as it came in. A row whose `lapsed` is not 0 or 1, whose `stored` is
  * above 2, or that holds an instant while nothing is held, is no run state (here and below), and neither is one whose hold is outside 1
@@ -247,6 +285,8 @@ static inline const char *channelfox_refusal_text(unsigned number) {
         return "the buffer is too small for what is to be written";
     case 17:
         return "a line is not of the form id,cost,validity,hold CR LF";
+    case 18:
+        return "a first release other than 0 has no place in form one";
     default:
         return "no such refusal";
     }

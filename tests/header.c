@@ -14,10 +14,12 @@ int main(void) {
         printf("a row has another size\n");
     if (sizeof(channelfox_table) != 1032 || sizeof(channelfox_plan) != 1544 || sizeof(channelfox_run) != 3344)
         printf("a table, a plan or a run has another size\n");
-    if (sizeof(channelfox_run_answer) != 16 + 3344)
+    if (sizeof(channelfox_stored) != 1296 || sizeof(channelfox_part) != 24)
+        printf("a stored table or a part has another size\n");
+    if (sizeof(channelfox_run_answer) != 16 + 3344 || sizeof(channelfox_stored_answer) != 16 + 1296)
         printf("an answer has another size\n");
     printf("%s\n", CHANNELFOX_VERSION);
-    for (unsigned number = 0; number <= 18; number++)
+    for (unsigned number = 0; number <= 19; number++)
         printf("%u %s\n", number, channelfox_refusal_text(number));
     return 0;
 }

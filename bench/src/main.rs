@@ -3,6 +3,10 @@
 
 mod ffi;
 mod figure6;
+// The second program's file, so that the C interface is declared once. Only a part of it is timed.
+#[allow(dead_code)]
+#[path = "../../tests/second/src/header.rs"]
+mod header;
 mod inputs;
 mod measure;
 mod plan;

@@ -3,7 +3,7 @@
 use std::env;
 use std::path::PathBuf;
 
-// Only the folder is told here. That the archive is wanted is said in src/ffi.rs, which is part of the comparison and
+// Only the folder is told here. That the archive is wanted is said in src/header.rs, which is part of the comparison and
 // not of the paper: so the paper's own tests build and run where there is no archive.
 fn main() {
     println!("cargo:rerun-if-env-changed=CHANNELFOX_LIB_DIR");

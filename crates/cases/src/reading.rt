@@ -1,5 +1,6 @@
-// Document 01's numbers for the stored table and the choice.
+// Document 01's numbers for the stored table and the choice, and request 7's form two of it.
 use crate::titles::say;
+use rules::Form;
 use rules::Verdict;
 
 // One stored table: what it is, the verdict, and how many rows came back.
@@ -13,7 +14,7 @@ fn read_case(title: usize, bytes: &[u8]) {
         Verdict::Refused(refusal, place) => printing::refused(refusal, place),
     }
     say(2); // , rows
-    printing::number(answer.table.count as u64);
+    printing::number(answer.stored.table.count as u64);
     printing::byte(b'\n');
 }
 
@@ -194,6 +195,51 @@ fn choices() {
     choice_case(26, &bad, &[0u8; 7]); // none reads
 }
 
+// The record (1, 1, 4) of form two with first release 2, and its trailer.
+fn one_of_two() -> [u8; 24] {
+    let mut bytes = [0u8; 24];
+    bytes[0] = 1;
+    bytes[4] = 1;
+    bytes[8] = 4;
+    bytes[12] = 2;
+    bytes[16] = 24;
+    bytes[20] = 1;
+    bytes[22] = b'M';
+    bytes[23] = b'2';
+    bytes
+}
+
+// One conversion: how many bytes it gives, or the refusal.
+fn convert_case(title: usize, bytes: &[u8], from: Form) {
+    say(title);
+    say(0);
+    let mut buffer = [0u8; 24];
+    let written = tables::convert(bytes, from, &mut buffer);
+    let verdict = written.verdict;
+    match verdict {
+        Verdict::Accepted => {
+            printing::number(written.size as u64);
+            say(3); // bytes
+        }
+        Verdict::Refused(refusal, place) => printing::refused(refusal, place),
+    }
+    printing::byte(b'\n');
+}
+
+// Form two: read, chosen and converted; and form one under its mark.
+fn forms() {
+    let one = one_record(20, 0);
+    let two = one_of_two();
+    let mut mixed = one_record(20, 0);
+    mixed[19] = b'2';
+    read_case(89, &two); // form two, one record and distance 24
+    read_case(90, &mixed); // a record of form one under the mark of form two
+    choice_case(91, &two, &one); // the site table in form two
+    convert_case(92, &one, Form::One); // form one to form two
+    convert_case(93, &two, Form::Two); // form two to form one, first release 2
+    convert_case(94, &two, Form::One); // form two converted as form one
+}
+
 pub(crate) fn cases() {
     lengths();
     counts();
@@ -202,4 +248,5 @@ pub(crate) fn cases() {
     records();
     repeated();
     choices();
+    forms();
 }

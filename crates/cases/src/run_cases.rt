@@ -93,14 +93,40 @@ fn wrapped() {
 }
 
 // (1,8), first release 1, waits for 3 slots behind (5,20) with a hold of 4, first release 0, and is done at 5, its deadline.
-fn held() {
-    let started = running::start(behind(4), 0, &[1, 0]);
+fn print_held(title: usize, started: Started) {
     let run = started.run;
-    say(84); // (1,8), (5,20) with hold 4, first releases 1, 0
+    say(title);
     printing::byte(b'\n');
     let at_five = print_slots(run, &[0, 0, 0, 0, 0]);
     print_reading(at_five, 1);
     printing::byte(b'\n');
+}
+
+// The same two objects stored in form two, the one behind first: first releases are stored in the order of the records.
+fn stored_behind(first: u8) -> [u8; 40] {
+    let mut bytes = [0u8; 40];
+    bytes[0] = 2;
+    bytes[2] = 3;
+    bytes[4] = 5;
+    bytes[8] = 20;
+    bytes[16] = 1;
+    bytes[20] = 1;
+    bytes[24] = 8;
+    bytes[28] = first;
+    bytes[32] = 40;
+    bytes[36] = 2;
+    bytes[38] = b'M';
+    bytes[39] = b'2';
+    bytes
+}
+
+// The run from rows and from stored bytes, and a stored first release that is not below the period, 4.
+fn held() {
+    print_held(84, running::start(behind(4), 0, &[1, 0])); // (1,8), (5,20) with hold 4, first releases 1, 0
+    let bytes = stored_behind(1);
+    print_held(95, running::start_stored(&bytes, 0)); // the same from form two, stored as (5,20), (1,8) with first releases 0, 1
+    let late = stored_behind(4);
+    print_start(96, running::start_stored(&late, 0)); // first release 4 of (1,8) in form two
 }
 
 // One start: "accepted" or the refusal, and the count of what came back.

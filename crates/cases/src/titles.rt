@@ -90,7 +90,15 @@ hold 65536\n\
 hold equal to the cost\n\
 a job in its hold\n\
 two jobs in their hold\n\
-a hold beyond the count",
+a hold beyond the count\n\
+form two, one record and distance 24\n\
+a record of form one under the mark of form two\n\
+the site table in form two\n\
+form one to form two\n\
+form two to form one, first release 2\n\
+form two converted as form one\n\
+the same from form two, stored as (5,20), (1,8) with first releases 0, 1\n\
+first release 4 of (1,8) in form two",
         title,
     );
 }

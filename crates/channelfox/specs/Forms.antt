@@ -1,11 +1,15 @@
--- The C forms of answers and runs, and that the way there and back loses nothing. Assumes nothing.
--- Enums and bools are numbers in C: a verdict is number and place (0 and 0 where accepted), a stored value its kind and what it holds.
+-- The C forms of answers, stored tables and runs. Assumes nothing.
+-- Enums and bools are numbers in C: a verdict is number and place (0 and 0 where accepted), a stored form its number, a stored value its
+-- kind and what it holds.
 use Prim.Native.Nat.{ℕ}
 use mathlib.Core.Bool.{Bool, true, cond, not, _&&_, _||_}
 use mathlib.Core.List.{List, [], _∷_, map}
 use lib.Dec.{eqb, leb}
+use Rattle.rules.specs.declared.Form.{Form}
+use Rattle.rules.specs.declared.Form.the-variants.{NoForm, One, Two}
 use Rattle.rules.specs.declared.Part.{Part}
 use Rattle.rules.specs.declared.Planned.{Planned}
+use Rattle.rules.specs.declared.ReadStored.{ReadStored}
 use Rattle.rules.specs.declared.ReadTable.{ReadTable}
 use Rattle.rules.specs.declared.Reading.{Reading}
 use Rattle.rules.specs.declared.Reading.the-variants as reading
@@ -15,6 +19,7 @@ use Rattle.rules.specs.declared.Started.{Started}
 use Rattle.rules.specs.declared.Stepped.{Stepped}
 use Rattle.rules.specs.declared.Stored.{Stored}
 use Rattle.rules.specs.declared.Stored.the-variants.{Empty, Held, Lapsed}
+use Rattle.rules.specs.declared.StoredTable.{StoredTable}
 use Rattle.rules.specs.declared.Verdict.{Verdict}
 use Rattle.rules.specs.declared.Refusal.the-variants.{NotRunState}
 use Rattle.rules.specs.declared.Verdict.the-variants.{Refused}
@@ -29,6 +34,8 @@ use Rattle.channelfox.specs.declared.CReading.{CReading}
 use Rattle.channelfox.specs.declared.CRun.{CRun}
 use Rattle.channelfox.specs.declared.CRunAnswer.{CRunAnswer}
 use Rattle.channelfox.specs.declared.CRunRow.{CRunRow}
+use Rattle.channelfox.specs.declared.CStored.{CStored}
+use Rattle.channelfox.specs.declared.CStoredAnswer.{CStoredAnswer}
 use Rattle.channelfox.specs.declared.CVerdict.{CVerdict}
 use Rattle.channelfox.specs.declared.CWritten.{CWritten}
 
@@ -43,6 +50,24 @@ verdictForm v = toldForm (told v)
 abbrev pub readForm : ReadTable → CReadAnswer
 readForm a = record { verdict = verdictForm (a .verdict); table = a .table }
 
+-- a stored form is a number, and each other number is no form
+abbrev pub formNumber : Form → ℕ
+formNumber NoForm = 0
+formNumber One = 1
+formNumber Two = 2
+
+abbrev pub formNumbered : ℕ → Form
+formNumbered n = cond (eqb n 1) One (cond (eqb n 2) Two NoForm)
+
+abbrev pub storedTableForm : StoredTable → CStored
+storedTableForm s = record { form = formNumber (s .form); table = s .table; firsts = s .firsts }
+
+abbrev pub storedTable : CStored → StoredTable
+storedTable c = record { form = formNumbered (c .form); table = c .table; firsts = c .firsts }
+
+abbrev pub storedForm : ReadStored → CStoredAnswer
+storedForm a = record { verdict = verdictForm (a .verdict); stored = storedTableForm (a .stored) }
+
 abbrev pub writtenForm : Written → CWritten
 writtenForm w = record { verdict = verdictForm (w .verdict); size = w .size }
 
@@ -50,11 +75,11 @@ abbrev pub planForm : Planned → CPlanAnswer
 planForm p = record { verdict = verdictForm (p .verdict); plan = p .plan }
 
 -- a stored table that is read is planned, and one that is refused is refused
-abbrev pub plannedStored : ReadTable → Planned
-plannedStored a = onAccepted (a .verdict) (planOf (a .table))
+abbrev pub plannedStored : ReadStored → Planned
+plannedStored a = onAccepted (a .verdict) (planOf (a .stored .table))
 
 abbrev pub partForm : Part → CPart
-partForm p = record { source = cond (p .site) 1 2; start = p .start; size = p .size }
+partForm p = record { source = cond (p .site) 1 2; form = formNumber (p .form); start = p .start; size = p .size }
 
 -- ── Runs ──
 

@@ -1,4 +1,4 @@
--- The way to the C form of a run and back loses nothing, and a refused run comes back exactly as it came in. Assumes nothing.
+-- The way to the C form of a stored table or a run and back loses nothing, and a refused run comes back exactly as it came in. Assumes nothing.
 use Prim.Native.Nat.{ℕ, zero, suc}
 use mathlib.Core.Path.{_≡_, refl, sym}
 use mathlib.Core.Bool.{Bool, true, false, cond, not, _&&_, _||_, true≢false}
@@ -6,16 +6,29 @@ use mathlib.Core.List.{List, [], _∷_, map}
 use native.Mathlib.Omega.{arith}
 use borrow.Author.Tests.{leb-true, eqb-true}
 use lib.Dec.{eqb, leb}
+use Rattle.rules.specs.declared.Form.{Form}
+use Rattle.rules.specs.declared.Form.the-variants.{NoForm, One, Two}
 use Rattle.rules.specs.declared.Run.{Run}
 use Rattle.rules.specs.declared.RunRow.{RunRow}
 use Rattle.rules.specs.declared.Stored.{Stored}
 use Rattle.rules.specs.declared.Stored.the-variants.{Empty, Held, Lapsed}
+use Rattle.rules.specs.declared.StoredTable.{StoredTable}
 use Rattle.rules.specs.RunState.{acceptable}
 use Rattle.rules.specs.Run.{steppedOf, advancedOf}
 use Rattle.channelfox.specs.declared.CRun.{CRun}
 use Rattle.channelfox.specs.declared.CRunRow.{CRunRow}
-use Rattle.channelfox.specs.Forms.{storedKind, storedHeld, storedOf, rowForm, rowOf, isForm, everyForm, runForm, runOf, allForms, noForm, slotForm, advanceForm}
+use Rattle.channelfox.specs.Forms.{formNumber, formNumbered, storedTableForm, storedTable, storedKind, storedHeld, storedOf, rowForm, rowOf, isForm, everyForm, runForm, runOf, allForms, noForm, slotForm, advanceForm}
 use Rattle.rules.proofs.Tests.{both-true}
+
+-- a stored form, to C and back
+pub form-there-and-back : (f : Form) → formNumbered (formNumber f) ≡ f
+form-there-and-back NoForm = refl
+form-there-and-back One = refl
+form-there-and-back Two = refl
+
+-- what stored bytes hold, to C and back
+pub stored-table-there-and-back : (s : StoredTable) → storedTable (storedTableForm s) ≡ s
+stored-table-there-and-back s = rw (form-there-and-back (s .form))
 
 mark-back : (l : Bool) → not (eqb (cond l 1 0) 0) ≡ l
 mark-back true = refl

@@ -1,15 +1,18 @@
-// The C forms of verdicts and runs: enums and bools as numbers. What C hands in may be anything, so whether it stands for a run
-// at all is a test.
+// The C forms of verdicts, stored tables and runs: enums and bools as numbers. What C hands in may be anything, so whether it stands for
+// a run at all is a test; a number that names no stored form is no form.
 ghost use mathlib.Core.Path.{_≡_};
 ghost use mathlib.Core.Bool.{cond};
-ghost use Rattle.channelfox.specs.Forms.{verdictForm, storedKind, storedHeld, storedOf, rowForm, rowOf, isForm, runForm, runOf, allForms};
+ghost use Rattle.channelfox.specs.Forms.{verdictForm, formNumber, formNumbered, storedTableForm, storedTable, storedKind, storedHeld, storedOf, rowForm, rowOf, isForm, runForm, runOf, allForms};
 use super::CRun;
 use super::CRunRow;
+use super::CStored;
 use super::CVerdict;
+use rules::Form;
 use rules::PlanRow;
 use rules::Run;
 use rules::RunRow;
 use rules::Stored;
+use rules::StoredTable;
 use rules::Verdict;
 
 pub(crate) fn verdict_form(verdict: Verdict) -> CVerdict
@@ -24,6 +27,53 @@ pub(crate) fn verdict_form(verdict: Verdict) -> CVerdict
             number: rules::refusal_number(refusal),
             place,
         },
+    }
+}
+
+pub(crate) fn form_number(form: Form) -> u32
+    ensures { λ r. ⌜ r ≡ formNumber form ⌝ }
+{
+    match form {
+        Form::NoForm => 0,
+        Form::One => 1,
+        Form::Two => 2,
+    }
+}
+
+pub(crate) fn form_numbered(number: u32) -> Form
+    ensures { λ r. ⌜ r ≡ formNumbered number ⌝ }
+{
+    if number == 1 {
+        return Form::One;
+    }
+    if number == 2 {
+        return Form::Two;
+    }
+    Form::NoForm
+}
+
+pub(crate) fn stored_table_form(stored: StoredTable) -> CStored
+    ensures { λ r. ⌜ r ≡ storedTableForm stored ⌝ }
+{
+    let form = stored.form;
+    let table = stored.table;
+    let firsts = stored.firsts;
+    CStored {
+        form: form_number(form),
+        table,
+        firsts,
+    }
+}
+
+pub(crate) fn stored_table(stored: CStored) -> StoredTable
+    ensures { λ r. ⌜ r ≡ storedTable stored ⌝ }
+{
+    let table = stored.table;
+    let firsts = stored.firsts;
+    StoredTable {
+        form: form_numbered(stored.form),
+        table,
+        firsts,
     }
 }
 

@@ -5,22 +5,28 @@ mod forms;
 ghost use mathlib.Core.Path.{_≡_};
 ghost use lib.ListN.{length};
 ghost use Rattle.rules.specs.StoredTable.{readOf, doorOf, chosenPart};
-ghost use Rattle.rules.specs.Writing.{writtenOf, bufferAfter};
+ghost use Rattle.rules.specs.Writing.{writtenOf, bufferAfter, formOne};
+ghost use Rattle.rules.specs.Converting.{convertedOf, convertedAfter};
 ghost use Rattle.rules.specs.Sheet.{importOf, exportedOf, sheetAfter};
 ghost use Rattle.rules.specs.Order.{rankedOf};
 ghost use Rattle.rules.specs.Deadlines.{planOf};
 ghost use Rattle.rules.specs.HalfHalf.{classicOf};
-ghost use Rattle.rules.specs.Run.{startOf};
+ghost use Rattle.rules.specs.Run.{startOf, startStoredOf};
 ghost use Rattle.rules.specs.declared.Verdict.the-variants.{Accepted};
-ghost use Rattle.channelfox.specs.Forms.{verdictForm, readForm, writtenForm, planForm, startedForm, steppedForm, plannedStored, noForm, slotForm, advanceForm, readingForm, readValueForm, partForm};
+ghost use Rattle.channelfox.specs.Forms.{verdictForm, readForm, storedForm, storedTable, formNumbered, writtenForm, planForm, startedForm, steppedForm, plannedStored, noForm, slotForm, advanceForm, readingForm, readValueForm, partForm};
 use forms::all_forms;
+use forms::form_number;
+use forms::form_numbered;
 use forms::run_form;
 use forms::run_of;
+use forms::stored_table;
+use forms::stored_table_form;
 use forms::verdict_form;
 use rules::ObjectRow;
 use rules::Plan;
 use rules::PlanRow;
 use rules::Planned;
+use rules::ReadStored;
 use rules::ReadTable;
 use rules::Reading;
 use rules::Refusal;
@@ -64,6 +70,20 @@ pub struct CReadAnswer {
     pub table: Table,
 }
 
+// What stored bytes hold: `form` 0 none, 1 form one, 2 form two; the first releases in the order of the records.
+#[repr(C)]
+pub struct CStored {
+    pub form: u32,
+    pub table: Table,
+    pub firsts: [u32; 64],
+}
+
+#[repr(C)]
+pub struct CStoredAnswer {
+    pub verdict: CVerdict,
+    pub stored: CStored,
+}
+
 // How many bytes were written; 0 where refused.
 #[repr(C)]
 pub struct CWritten {
@@ -99,10 +119,11 @@ pub struct CReading {
     pub age: u32,
 }
 
-// The chosen part: `source` 1 of the site bytes, 2 of the factory bytes.
+// The chosen part: `source` 1 of the site bytes, 2 of the factory bytes; `form` as in `CStored`.
 #[repr(C)]
 pub struct CPart {
     pub source: u32,
+    pub form: u32,
     pub start: usize,
     pub size: usize,
 }
@@ -117,6 +138,17 @@ fn read_form(answer: ReadTable) -> CReadAnswer
     CReadAnswer {
         verdict: verdict_form(verdict),
         table,
+    }
+}
+
+fn stored_form(answer: ReadStored) -> CStoredAnswer
+    ensures { λ r. ⌜ r ≡ storedForm answer ⌝ }
+{
+    let verdict = answer.verdict;
+    let stored = answer.stored;
+    CStoredAnswer {
+        verdict: verdict_form(verdict),
+        stored: stored_table_form(stored),
     }
 }
 
@@ -176,10 +208,10 @@ fn no_form(run: CRun) -> CRunAnswer
 // ── Tables and plans ──
 
 #[no_mangle]
-pub extern "C" fn channelfox_read(bytes: &[u8]) -> CReadAnswer
-    ensures { λ r. ⌜ r ≡ readForm (readOf (now (bytes .entry))) ⌝ }
+pub extern "C" fn channelfox_read(bytes: &[u8]) -> CStoredAnswer
+    ensures { λ r. ⌜ r ≡ storedForm (readOf (now (bytes .entry))) ⌝ }
 {
-    read_form(tables::read(bytes))
+    stored_form(tables::read(bytes))
 }
 
 #[no_mangle]
@@ -194,9 +226,12 @@ pub extern "C" fn channelfox_choose(site: &[u8], factory: &[u8]) -> CPart
     ensures { λ r. ⌜ r ≡ partForm (chosenPart (now (site .entry)) (now (factory .entry))) ⌝ }
 {
     let part = tables::chosen_part(site, factory);
+    let form = part.form;
+    let form = form_number(form);
     let source = if part.site { 1u32 } else { 2u32 };
     CPart {
         source,
+        form,
         start: part.start,
         size: part.size,
     }
@@ -204,9 +239,23 @@ pub extern "C" fn channelfox_choose(site: &[u8], factory: &[u8]) -> CPart
 
 #[no_mangle]
 pub extern "C" fn channelfox_write(table: Table, buffer: &mut [u8]) -> CWritten
-    ensures { λ r. ⌜ (now (buffer .exit) ≡ bufferAfter table (now (buffer .entry))) × (r ≡ writtenForm (writtenOf table (length (now (buffer .entry))))) ⌝ }
+    ensures { λ r. ⌜ (now (buffer .exit) ≡ bufferAfter (formOne table) (now (buffer .entry))) × (r ≡ writtenForm (writtenOf (formOne table) (length (now (buffer .entry))))) ⌝ }
 {
     written_form(tables::write(table, buffer))
+}
+
+#[no_mangle]
+pub extern "C" fn channelfox_write_stored(stored: CStored, buffer: &mut [u8]) -> CWritten
+    ensures { λ r. ⌜ (now (buffer .exit) ≡ bufferAfter (storedTable stored) (now (buffer .entry))) × (r ≡ writtenForm (writtenOf (storedTable stored) (length (now (buffer .entry))))) ⌝ }
+{
+    written_form(tables::write_stored(stored_table(stored), buffer))
+}
+
+#[no_mangle]
+pub extern "C" fn channelfox_convert(bytes: &[u8], from: u32, buffer: &mut [u8]) -> CWritten
+    ensures { λ r. ⌜ (now (buffer .exit) ≡ convertedAfter (formNumbered from) (now (bytes .entry)) (now (buffer .entry))) × (r ≡ writtenForm (convertedOf (formNumbered from) (now (bytes .entry)) (length (now (buffer .entry))))) ⌝ }
+{
+    written_form(tables::convert(bytes, form_numbered(from), buffer))
 }
 
 #[no_mangle]
@@ -251,7 +300,8 @@ pub extern "C" fn channelfox_plan_stored(bytes: &[u8]) -> CPlanAnswer
 {
     let answer = tables::read(bytes);
     let verdict = answer.verdict;
-    let table = answer.table;
+    let stored = answer.stored;
+    let table = stored.table;
     match verdict {
         Verdict::Accepted => plan_form(planning::plan_table(table)),
         Verdict::Refused(_, _) => plan_form(Planned {
@@ -268,6 +318,13 @@ pub extern "C" fn channelfox_start(table: Table, clock: u32, firsts: &[u32]) -> 
     ensures { λ r. ⌜ r ≡ startedForm (startOf table clock (now (firsts .entry))) ⌝ }
 {
     started_form(running::start(table, clock, firsts))
+}
+
+#[no_mangle]
+pub extern "C" fn channelfox_start_stored(bytes: &[u8], clock: u32) -> CRunAnswer
+    ensures { λ r. ⌜ r ≡ startedForm (startStoredOf (now (bytes .entry)) clock) ⌝ }
+{
+    started_form(running::start_stored(bytes, clock))
 }
 
 // One slot by value, for the one in place.

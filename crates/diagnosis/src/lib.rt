@@ -7,14 +7,17 @@ mod stored;
 pub use line::fault;
 pub use sheet::line_count;
 pub use stored::distance;
+pub use stored::needed;
 pub use stored::object_count;
+pub use stored::record_size;
 
-// The numbers of one object as they are written, in range or not.
+// The numbers of one object as they are written, in range or not. Only records of form two have a first release.
 pub struct Row {
     pub id: u64,
     pub cost: u64,
     pub validity: u64,
     pub hold: u64,
+    pub first: u64,
 }
 
 // The object at a place of a sheet or of a stored table.

@@ -92,5 +92,6 @@ pub(crate) fn row(bytes: &[u8], line: usize) -> Row {
         cost: numbers[1],
         validity: numbers[2],
         hold: numbers[3],
+        first: 0,
     }
 }

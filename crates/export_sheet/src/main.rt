@@ -1,6 +1,7 @@
 // The export program: reads a stored table from standard input and writes the reseller's sheet to standard output. A refusal is told on
 // standard error as "refused N at K" and why, and nothing is written.
 use libc::STDIN_FILENO;
+use rules::Form;
 use rules::Table;
 use rules::Verdict;
 
@@ -10,6 +11,17 @@ fn write_sheet(table: Table) {
     let written = sheets::export(table, &mut bytes);
     let n = written.size;
     printing::text(&bytes[..n]);
+}
+
+// A sheet has no column for first releases. Whoever exports a table that has them is told, so that they are not lost unseen.
+fn note_firsts(form: Form) {
+    match form {
+        Form::NoForm | Form::One => {}
+        Form::Two => printing::complain(
+            b"The first releases of the table are not in the sheet, which has no place for them. Keep the table as well.\n",
+            0,
+        ),
+    }
 }
 
 // The answer to the bytes of a stored table.
@@ -23,8 +35,11 @@ fn answer(bytes: &[u8]) {
             printing::ended(1);
         }
         Verdict::Accepted => {
-            let table = read.table;
+            let stored = read.stored;
+            let table = stored.table;
             write_sheet(table);
+            let form = stored.form;
+            note_firsts(form);
             printing::ended(0);
         }
     }

@@ -61,7 +61,8 @@ fn answer(bytes: &[u8]) {
             printing::ended(1);
         }
         Verdict::Accepted => {
-            let table = read.table;
+            let stored = read.stored;
+            let table = stored.table;
             plan(table);
         }
     }

@@ -6,27 +6,28 @@ use libc::STDERR_FILENO;
 use rules::Refusal;
 use rules::Table;
 
-// The sentences by number. Those of 6 to 9 begin with the record or the line, and that of 10 goes on with what the object needs.
+// The sentences by number. Those of 6 to 9 and 18 begin with the record or the line, and that of 10 goes on with what the object needs.
 fn sentence(number: usize, told: [u64; 8]) {
     complain_of(
         b"\n\
 There are # bytes, and a stored table has 8 at least: the file is empty or was cut off. Take it from where it was made.\n\
 There are more than 4096 bytes, the most that a stored table may have. Is it the right file?\n\
-The last two bytes are not the mark ML of a stored table: the end was cut off, or it is another kind of file. A sheet has to go through import first.\n\
+The last two bytes are neither mark of a stored table, ML of form one or M2 of form two: the end was cut off, or it is another kind of file. A sheet has to go through import first.\n\
 The trailer counts # objects, and a table has 1 to 64. Write the table again with the right count.\n\
-The trailer says that the records begin # bytes before the end; for the count # at least # are needed. Write the table again.\n\
+The trailer says that the records begin # bytes before the end; for the count # and records of # bytes each, as the mark has them, at least # are needed. Write the table again, or give it the mark of its form: ML for records of 12 bytes, M2 for 16.\n\
 # (id #): its hold is #, and a hold is from 1 to the cost, here #, and at most 65536. Change it.\n\
 # (id #): its cost is #, and a cost is from 1 to 1000000. Change it.\n\
 # (id #): its validity is #, and a validity is from 2 to 1000000. Change it.\n\
 # (id #): number # has this id already. Give one of the two another id.\n\
 The object with id #, cost #, validity #, number # in priority order, has no deadline: it has # slots, half its validity, and within these \n\
 There are # first releases and # objects. Give one for each object in priority order, separated by commas, or a single 0 for all.\n\
-First release # (id #) is #, and must be below the period of the object, #. Lower it.\n\
+The first release of the object with id #, number # in priority order, is #, and must be below its period, #. Lower it.\n\
 What was handed in is not the state of a run. Start the run again.\n\
 No object has that id.\n\
 The trailer says that the records begin # bytes before the end, and there are # bytes: the beginning of the file is missing. Take it from where it was made.\n\
 The buffer is too small for what is to be written. Lend a larger one.\n\
-A line of the sheet is not of the form id,cost,validity,hold.\n",
+A line of the sheet is not of the form id,cost,validity,hold.\n\
+# (id #): its first release is #, and form one has no place for it. Set it to 0, or keep form two.\n",
         number,
         told,
     );
@@ -89,11 +90,12 @@ fn pick(number: usize, row: Row, earlier: usize) -> u64 {
         6 => row.hold,
         7 => row.cost,
         8 => row.validity,
+        18 => row.first,
         _ => counted(earlier),
     }
 }
 
-// 6 to 9, of a record or a line: which it is, its id, and what is wrong with it.
+// 6 to 9 and 18, of a record or a line: which it is, its id, and what is wrong with it.
 fn explain_row(number: usize, bytes: &[u8], sheet: bool, place: usize) {
     let row = diagnosis::row_at(bytes, sheet, place);
     let earlier = diagnosis::first_with(bytes, sheet, place, row.id);
@@ -115,24 +117,24 @@ fn trailer_numbers(number: usize, bytes: &[u8]) -> [u64; 8] {
     match number {
         1 => numbers(size, 0, 0, 0),
         4 => numbers(count, 0, 0, 0),
-        5 => numbers(distance, count, needed(count), 0),
+        5 => numbers(
+            distance,
+            count,
+            diagnosis::record_size(bytes),
+            diagnosis::needed(bytes),
+        ),
         _ => numbers(distance, size, 0, 0),
     }
-}
-
-// The bytes that so many records and the trailer take.
-fn needed(count: u64) -> u64 {
-    if count < 65536 { 8 + 12 * count } else { 0 }
 }
 
 fn end_line() {
     io::write_all(STDERR_FILENO, b"\n");
 }
 
-// A refused stored table.
+// A stored table that was refused, by reading or, with 18, by converting.
 pub fn explain_table(bytes: &[u8], refusal: Refusal, place: usize) {
     let number = rules::refusal_number(refusal) as usize;
-    if (5 < number) & (number < 10) {
+    if ((5 < number) & (number < 10)) | (number == 18) {
         explain_row(number, bytes, false, place);
     } else {
         sentence(number, trailer_numbers(number, bytes));
@@ -226,8 +228,8 @@ pub fn explain_start(table: Table, refusal: Refusal, place: usize, given: usize,
         sentence(
             12,
             numbers(
-                counted(place),
                 row.id as u64,
+                counted(place),
                 first as u64,
                 row.period as u64,
             ),

@@ -7,6 +7,7 @@ use mathlib.Core.List.{List}
 use Rattle.rules.specs.declared.Table.{Table}
 use Rattle.rules.specs.declared.Run.{Run}
 use Rattle.rules.specs.declared.Verdict.the-variants.{Accepted}
+use Rattle.rules.specs.StoredTable.{readOf}
 use Rattle.rules.specs.RunState.{acceptable}
 use Rattle.rules.specs.Deadlines.{planOf}
 use Rattle.rules.specs.Run.{startOf, steppedOf}
@@ -14,6 +15,7 @@ use Rattle.promises.specs.OnlyOrder.{order-is, only-order}
 use Rattle.promises.specs.HoldsOfOne.{plan-is-01, step-is-01}
 use Rattle.promises.specs.PlanExactly.{each-planned, planned-or-10, ten-exactly}
 use Rattle.promises.specs.StartExactly.{start-exactly}
+use Rattle.promises.specs.StartStored.{start-read, first-of-record, stored-exactly, started-or-refused}
 use Rattle.promises.specs.ReadExactly.{reads-13-exactly, reads-14-exactly}
 use Rattle.promises.specs.Runs.{Fits}
 use Rattle.promises.specs.Slots.{slot-used}
@@ -23,7 +25,7 @@ use Rattle.promises.specs.InHistory.{kept-in-history}
 use Rattle.promises.specs.FromAny.{row-due, row-reads, row-promised}
 use Rattle.promises.specs.Starts.{start-history, start-accepted, start-every-run, start-promised}
 use Rattle.promises.specs.SameAhead.{same-tables}
-use Rattle.promises.specs.Promises.{OfTable, OfStart, OfRun, Promises}
+use Rattle.promises.specs.Promises.{OfTable, OfStart, OfStored, OfRun, Promises}
 
 of-table : (table : Table) → OfTable table
 of-table table = record {
@@ -44,6 +46,14 @@ of-start table clock firsts accepted low = record {
   demand-3 = λ stolen b e rest given i o place. start-promised table clock firsts accepted low stolen i o place b e rest given;
 }
 
+of-stored : (s : List ℕ) (clock : ℕ) → OfStored s clock
+of-stored s clock = record {
+  as-read = start-read (readOf s) clock;
+  first-release = first-of-record s;
+  start-exactly = stored-exactly (readOf s) clock;
+  started-or-refused = started-or-refused s clock;
+}
+
 of-run : (run : Run) → Fits run → acceptable run ≡ true → OfRun run
 unfolding steppedOf
 of-run run w ok = record {
@@ -59,6 +69,7 @@ pub kept : Promises
 kept = record {
   of-table = of-table;
   of-start = of-start;
+  of-stored = of-stored;
   of-run = of-run;
   reads-13 = reads-13-exactly;
   reads-14 = reads-14-exactly;

@@ -4,6 +4,7 @@ pub mod Covers
 pub mod OnlyOrder
 pub mod AnyRecordOrder
 pub mod RoundTrip
+pub mod Conversions
 pub mod Sheets
 pub mod Classic
 pub mod SamePlan
@@ -30,4 +31,5 @@ pub mod SameAhead
 pub mod Kept
 pub mod Examples
 pub mod StartExactly
+pub mod StartStored
 pub mod ReadExactly

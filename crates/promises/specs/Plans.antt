@@ -166,6 +166,13 @@ formed : (v : Verdict) (p : Planned) → onAccepted v p .verdict ≡ Accepted �
 formed Accepted p e = refl
 formed (Refused r k) p e = absurd (refused-not e)
 
+-- and has a planned row for each object
+pub plans-count : (table : Table) → planOf table .verdict ≡ Accepted → length (plannedRows (planOf table .plan)) ≡ table .count
+plans-count table e =
+    let rows = inOrder (table .rows) (table .count) in
+    sym (length-map (plannedRows (planOf table .plan)) unplanned)
+    ∙ (ap length (as-rows-of rows (planned-as table e)) ∙ in-order-length (table .rows) (table .count))
+
 pub plan-rows : (table : Table) → planOf table .verdict ≡ Accepted → PlanRows (plannedRows (planOf table .plan))
 plan-rows table e =
     let rows = table .rows in
@@ -174,8 +181,7 @@ plan-rows table e =
     let c = both-accept (countVerdict n) (checksFrom 0 [] (rowsIn table)) well-formed in
     let count = count-said n (c .0) in
     let b = planned-as table e in
-    let l : length (plannedRows (planOf table .plan)) ≡ n =
-    sym (length-map (plannedRows (planOf table .plan)) unplanned) ∙ (ap length (as-rows-of (inOrder rows n) b) ∙ in-order-length rows n) in
+    let l = plans-count table e in
     record {
       count-pos = omega arith;
       count-le = omega arith;

@@ -76,6 +76,22 @@ pub record OfStart (table : Table) (clock : ℕ) (firsts : List ℕ) : Type 0 wh
   pub demand-3 : (stolen : ℕ → Bool) (b e : ℕ) → NothingLeft (runOf table clock firsts stolen b) → Unstolen stolen b e
       → (i : ℕ) (o : RunObject) → getElem? (objectsIn table firsts) i ≡ some o → Promised (runOf table clock firsts stolen) i o b e
 
+-- of a start from stored bytes of either form (request 7)
+pub record OfStored (s : List ℕ) (clock : ℕ) : Type 0 where
+  -- STARTED AS READ. Where the bytes read, it is the start of the table that was read, with the first releases in priority order: so what
+  -- is promised above of a start is promised of it, demand 3 included.
+  pub as-read : readOf s .verdict ≡ Accepted
+      → startStoredOf s clock ≡ startOf (readOf s .stored .table) clock (firstsInOrder (readOf s .stored))
+  -- The object at place i in priority order has the first release of its own record, the record k with its id.
+  pub first-release : readOf s .verdict ≡ Accepted → (i k : ℕ) → i < countOf s → k < countOf s
+      → getD (ordered (readOf s .stored .table)) i noRow .id ≡ rowOf s (recordAt s k) .id
+      → getD (firstsInOrder (readOf s .stored)) i 0 ≡ firstAt (formOf s) s (recordAt s k)
+  -- STARTED EXACTLY if the bytes read and what was read is started; otherwise refused on the first ground: the refusal of reading, then
+  -- the plan's, then 12 at the first place in priority order. Bytes that read are started, or refused with 10 or 12 and no other number.
+  pub start-exactly : (n : Told) → (told (startStoredOf s clock .verdict) ≡ n) ↔ StoredGround (readOf s) n
+  pub started-or-refused : readOf s .verdict ≡ Accepted → let n = told (startStoredOf s clock .verdict) in
+      (n ≡ 0 atPlace 0) ⊎ ((k : ℕ) × ((n ≡ 10 atPlace k) ⊎ (n ≡ 12 atPlace k)))
+
 -- of an acceptable run, however it came about: the ages of its samples are taken on trust
 pub record OfRun (run : Run) : Type 0 where
   -- A SLOT is the three steps on the rows in use, and keeps the run acceptable.
@@ -104,6 +120,7 @@ pub record Promises : Type 0 where
   pub of-table : (table : Table) → OfTable table
   pub of-start : (table : Table) (clock : ℕ) (firsts : List ℕ) → startOf table clock firsts .verdict ≡ Accepted → clock < 2 ^ 32
       → OfStart table clock firsts
+  pub of-stored : (s : List ℕ) (clock : ℕ) → OfStored s clock
   pub of-run : (run : Run) → Fits run → acceptable run ≡ true → OfRun run
   -- READ EXACTLY. 13 exactly if the state is not acceptable, 14 exactly if it is and no row in use has the id.
   pub reads-13 : (run : Run) (id : ℕ) → (readingTold (readingOf run id) .refusal ≡ 13 atPlace 0) ↔ (acceptable run ≡ false)

@@ -40,10 +40,11 @@ fn is_stale(row: RunRow) -> bool {
 
 // The release of the job that is at hand in a slot, or else the last one.
 fn last_release(clock: u32, before: RunRow) -> u32 {
-    if tallies::work_at_hand(clock, before) == 0 {
+    let at_hand = stepping::released(clock, before);
+    if at_hand.left == 0 {
         std::num::wrapping_sub_u32(before.next, before.planned.period)
     } else {
-        tallies::sample_at_hand(clock, before)
+        at_hand.sample
     }
 }
 
@@ -129,8 +130,9 @@ pub(crate) fn owner(before: Run, after: Run, taken: bool) -> u8 {
         if (i as usize) < before.count {
             let was = before.rows[i as usize];
             let is = after.rows[i as usize];
-            if tallies::ran(before.clock, was, is) {
-                owner = owner_at(i, tallies::in_hold(before.clock, was));
+            let at_hand = stepping::released(before.clock, was);
+            if tallies::ran(at_hand, is) {
+                owner = owner_at(i, stepping::in_hold(at_hand));
             }
         }
     }

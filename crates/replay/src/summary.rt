@@ -10,8 +10,19 @@ use rules::PlanRow;
 use rules::Run;
 use rules::RunRow;
 
-// "objects N, slots S, stolen T".
-pub(crate) fn print_header(run: Run, slots: usize, stolen: u32) {
+// Where the first releases came from, by its number in `main::source_of`.
+fn print_source(source: usize) {
+    printing::line_of(
+        b"first releases: as --first gives them\n\
+first releases: as they stand in the table, which is of form two\n\
+first releases: 0 for all, since the table is of form one and has none\n",
+        source,
+    );
+    printing::byte(b'\n');
+}
+
+// "objects N, slots S, stolen T", and the source of the first releases.
+pub(crate) fn print_header(run: Run, slots: usize, stolen: u32, source: usize) {
     printing::text(b"objects ");
     printing::number(run.count as u64);
     printing::text(b", slots ");
@@ -19,6 +30,7 @@ pub(crate) fn print_header(run: Run, slots: usize, stolen: u32) {
     printing::text(b", stolen ");
     printing::number(stolen as u64);
     printing::byte(b'\n');
+    print_source(source);
 }
 
 // The planned numbers of an object.

@@ -1,7 +1,4 @@
 // What happened to one object in one slot, told from its row before the slot and after it, and what is counted of it.
-ghost use mathlib.Core.Path.{_≡_};
-ghost use Rattle.rules.specs.Run.{releasedOf};
-ghost use Rattle.rules.specs.RunState.{inHold};
 use rules::Run;
 use rules::RunRow;
 use rules::Stored;
@@ -35,45 +32,9 @@ pub(crate) fn no_tallies() -> Tallies {
     Tallies { rows }
 }
 
-// The work at hand after step 1.
-pub(crate) fn work_at_hand(clock: u32, before: RunRow) -> u32
-    ensures { λ r. ⌜ r ≡ releasedOf clock before .left ⌝ }
-{
-    if before.next == clock {
-        if before.left == 0 {
-            return before.planned.cost;
-        }
-    }
-    before.left
-}
-
-// The sample of the job at hand after step 1.
-pub(crate) fn sample_at_hand(clock: u32, before: RunRow) -> u32
-    ensures { λ r. ⌜ r ≡ releasedOf clock before .sample ⌝ }
-{
-    if before.next == clock {
-        if before.left == 0 {
-            return clock;
-        }
-    }
-    before.sample
-}
-
-// Whether the job at hand after step 1 is in its hold: it has done a unit, and not yet as many as its hold has.
-pub(crate) fn in_hold(clock: u32, before: RunRow) -> bool
-    ensures { λ r. ⌜ r ≡ inHold (releasedOf clock before) ⌝ }
-{
-    let left = work_at_hand(clock, before);
-    let planned = before.planned;
-    if planned.cost <= left {
-        return false;
-    }
-    (left != 0) & (planned.cost - left < planned.hold)
-}
-
-// Whether the object did a unit of work.
-pub(crate) fn ran(clock: u32, before: RunRow, after: RunRow) -> bool {
-    work_at_hand(clock, before) != after.left
+// Whether the object did a unit of work; `at_hand` is its row after step 1.
+pub(crate) fn ran(at_hand: RunRow, after: RunRow) -> bool {
+    at_hand.left != after.left
 }
 
 fn chosen(test: bool, yes: u8, no: u8) -> u8 {
@@ -82,8 +43,9 @@ fn chosen(test: bool, yes: u8, no: u8) -> u8 {
 
 // The sign of the job: upper line of an object.
 pub(crate) fn job_sign(clock: u32, before: RunRow, after: RunRow) -> u8 {
-    let worked = ran(clock, before, after);
-    let held = in_hold(clock, before);
+    let at_hand = stepping::released(clock, before);
+    let worked = ran(at_hand, after);
+    let held = stepping::in_hold(at_hand);
     if before.next == clock {
         if before.left == 0 {
             chosen(worked, b'R', b'r')
@@ -107,9 +69,9 @@ pub(crate) fn value_sign(after: RunRow) -> u8 {
 }
 
 // The sample instant of the stored value after the slot: a job that ended brought its own.
-fn sampled_after(sampled: u32, clock: u32, before: RunRow, after: RunRow) -> u32 {
-    if ran(clock, before, after) & (after.left == 0) {
-        sample_at_hand(clock, before)
+fn sampled_after(sampled: u32, at_hand: RunRow, after: RunRow) -> u32 {
+    if ran(at_hand, after) & (after.left == 0) {
+        at_hand.sample
     } else {
         sampled
     }
@@ -135,12 +97,13 @@ fn kept_behind(place: usize, owner: u8) -> bool {
 // The tally after one slot more; `kept`: in it the core was kept for an object behind. The run is no longer than its clock goes round, so
 // an age counted on from the sample is true also where the stored value has lapsed.
 fn tallied_row(tally: Tally, clock: u32, before: RunRow, after: RunRow, kept: bool) -> Tally {
-    let sampled = sampled_after(tally.sampled, clock, before, after);
+    let at_hand = stepping::released(clock, before);
+    let sampled = sampled_after(tally.sampled, at_hand, after);
     let now = one_more(clock);
     let longest = larger(tally.longest, std::num::wrapping_sub_u32(now, sampled));
     let mut next = tally;
     next.sampled = sampled;
-    if kept & (work_at_hand(clock, before) != 0) {
+    if kept & (at_hand.left != 0) {
         next.held_up = one_more(tally.held_up);
     }
     let stored = after.stored;

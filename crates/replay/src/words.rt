@@ -108,22 +108,25 @@ fn only(list: List) -> usize
     1000001
 }
 
-// The words as they are meant: how many slots, where the chart begins (1,000,001: so that it ends with the run), the first releases, which word
-// is the pattern of stolen slots (0: none), and which of --slots, --first, --stolen, --from and the names is wrong, 1 to 5 (0: none).
+// The words as they are meant: how many slots, where the chart begins (1,000,001: so that it ends with the run), the first releases and whether
+// --first gave them, which word is the pattern of stolen slots (0: none), and which of --slots, --first, --stolen, --from and the names is wrong,
+// 1 to 5 (0: none).
 pub(crate) struct Words {
     pub slots: usize,
     pub from: usize,
     pub firsts: List,
+    pub given: bool,
     pub stolen: usize,
     pub wrong: usize,
 }
 
 fn no_words() -> Words {
-    let firsts = listed(b"0");
+    let firsts = no_numbers();
     Words {
         slots: 60,
         from: 1000001,
         firsts,
+        given: false,
         stolen: 0,
         wrong: 0,
     }
@@ -178,6 +181,7 @@ fn with_number(words: Words, name: usize, number: usize) -> Words {
 fn with_firsts(words: Words, firsts: List) -> Words {
     let mut next = words;
     next.firsts = firsts;
+    next.given = true;
     if !firsts.good {
         next.wrong = 2;
     }

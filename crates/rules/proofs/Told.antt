@@ -7,7 +7,7 @@ use native.Mathlib.Omega.{arith}
 use Rattle.rules.specs.declared.Reading.{Reading}
 use Rattle.rules.specs.declared.Reading.the-variants as reading
 use Rattle.rules.specs.declared.Refusal.{Refusal}
-use Rattle.rules.specs.declared.Refusal.the-variants.{TooShort, TooLong, WrongMark, CountRange, DistanceSmall, HoldRange, CostRange, ValidityRange, IdRepeated, NoDeadline, FirstsCount, FirstRange, NotRunState, NoSuchId, DistanceLarge, BufferSmall, LineForm}
+use Rattle.rules.specs.declared.Refusal.the-variants.{TooShort, TooLong, WrongMark, CountRange, DistanceSmall, HoldRange, CostRange, ValidityRange, IdRepeated, NoDeadline, FirstsCount, FirstRange, NotRunState, NoSuchId, DistanceLarge, BufferSmall, LineForm, FirstUsed}
 use Rattle.rules.specs.declared.Verdict.{Verdict}
 use Rattle.rules.specs.declared.Verdict.the-variants.{Accepted, Refused}
 use Rattle.rules.specs.Refusals.{Told, told, readingTold}
@@ -33,6 +33,7 @@ verdicts k =
     ∷ Refused DistanceLarge k
     ∷ Refused BufferSmall k
     ∷ Refused LineForm k
+    ∷ Refused FirstUsed k
     ∷ []
 
 abbrev verdictOf : Told → Verdict
@@ -57,6 +58,7 @@ named (Refused NoSuchId k) = refl
 named (Refused DistanceLarge k) = refl
 named (Refused BufferSmall k) = refl
 named (Refused LineForm k) = refl
+named (Refused FirstUsed k) = refl
 
 pub told-settles : (v w : Verdict) → told v ≡ told w → v ≡ w
 told-settles v w e = sym (named v) ∙ (ap verdictOf e ∙ named w)

@@ -4,6 +4,7 @@ use Prim.Native.Nat.{ℕ}
 use mathlib.Core.Path.{_≡_, refl}
 use mathlib.Core.Bool.{Bool, true, false}
 use mathlib.Core.List.{List, [], _∷_, _++_, map}
+use Rattle.rules.specs.declared.Form.the-variants.{One}
 use Rattle.rules.specs.declared.ObjectRow.{ObjectRow}
 use Rattle.rules.specs.declared.RunRow.{RunRow}
 use Rattle.rules.specs.declared.Run.{Run}
@@ -62,10 +63,10 @@ holds-65536 = refl
 -- ── Bytes ──
 
 -- the spare field stores the hold less one; and all its bits are of it
-pub written-holds : tableBytes (row 2 3 9 3 ∷ row 1 1 4 1 ∷ []) ≡ stored 2 2 3 9 ++ stored 1 0 1 4 ++ trailer 32 2
+pub written-holds : tableBytes One (row 2 3 9 3 ∷ row 1 1 4 1 ∷ []) (0 ∷ 0 ∷ []) ≡ stored 2 2 3 9 ++ stored 1 0 1 4 ++ trailer 32 2
 written-holds = refl
 
-pub read-holds : map (λ (s : List ℕ). rowsIn (readOf s .table))
+pub read-holds : map (λ (s : List ℕ). rowsIn (readOf s .stored .table))
     ((stored 2 2 3 9 ++ trailer 20 1) ∷ (1 ∷ 0 ∷ 255 ∷ 255 ∷ 0 ∷ 0 ∷ 1 ∷ 0 ∷ 0 ∷ 0 ∷ 2 ∷ 0 ∷ trailer 20 1) ∷ [])
     ≡ (row 2 3 9 3 ∷ []) ∷ (row 1 65536 131072 65536 ∷ []) ∷ []
 read-holds = refl

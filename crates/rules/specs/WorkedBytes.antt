@@ -4,10 +4,11 @@ use Prim.Native.Nat.{ℕ}
 use mathlib.Core.Path.{_≡_, refl}
 use mathlib.Core.List.{List, [], _∷_, _++_, map}
 use lib.ListN.{replicate}
+use Rattle.rules.specs.declared.Form.the-variants.{One}
 use Rattle.rules.specs.declared.ObjectRow.{ObjectRow}
 use Rattle.rules.specs.Refusals.{Told, _atPlace_, told}
 use Rattle.rules.specs.StoredTable.{tableOf, readVerdict}
-use Rattle.rules.specs.Writing.{tableBytes, bufferAfter}
+use Rattle.rules.specs.Writing.{tableBytes, formOne, bufferAfter}
 use Rattle.rules.specs.Numbers.{row}
 
 -- a record of id, hold less one, cost and validity, each below 256; a trailer of distance (below 256) and count (below 256), with the mark 4D 4C
@@ -48,16 +49,16 @@ stored-right = refl
 -- ── Written ──
 
 -- n records in the given order, not in priority order, and the trailer, without gap, the numbers with the low byte first
-pub written-right : tableBytes (row 2 3 5 ∷ row 1 1 4 ∷ []) ≡ stored 2 0 3 5 ++ stored 1 0 1 4 ++ trailer 32 2
+pub written-right : tableBytes One (row 2 3 5 ∷ row 1 1 4 ∷ []) (0 ∷ 0 ∷ []) ≡ stored 2 0 3 5 ++ stored 1 0 1 4 ++ trailer 32 2
 written-right = refl
 
-pub written-low-first : tableBytes (row 258 66051 1000000 ∷ []) ≡ 2 ∷ 1 ∷ 0 ∷ 0 ∷ 3 ∷ 2 ∷ 1 ∷ 0 ∷ 64 ∷ 66 ∷ 15 ∷ 0 ∷ trailer 20 1
+pub written-low-first : tableBytes One (row 258 66051 1000000 ∷ []) (0 ∷ []) ≡ 2 ∷ 1 ∷ 0 ∷ 0 ∷ 3 ∷ 2 ∷ 1 ∷ 0 ∷ 64 ∷ 66 ∷ 15 ∷ 0 ∷ trailer 20 1
 written-low-first = refl
 
 -- a buffer of nines after writing: one byte more than needed, one byte less (16), and rows that are refused (7)
 abbrev pub nines : ℕ → List ℕ
 nines n = replicate n 9
 
-pub buffers-right : map (λ (c : List ObjectRow × ℕ). bufferAfter (tableOf (c .0)) (nines (c .1))) ((row 1 1 4 ∷ [], 21) ∷ (row 1 1 4 ∷ [], 19) ∷ (row 1 0 4 ∷ [], 21) ∷ [])
+pub buffers-right : map (λ (c : List ObjectRow × ℕ). bufferAfter (formOne (tableOf (c .0))) (nines (c .1))) ((row 1 1 4 ∷ [], 21) ∷ (row 1 1 4 ∷ [], 19) ∷ (row 1 0 4 ∷ [], 21) ∷ [])
     ≡ (stored 1 0 1 4 ++ trailer 20 1 ++ nines 1) ∷ nines 19 ∷ nines 21 ∷ []
 buffers-right = refl

@@ -9,4 +9,5 @@ pub mod Front
 pub mod Ahead
 pub mod Going
 pub mod Firsts
+pub mod FromStored
 pub mod PlanCount

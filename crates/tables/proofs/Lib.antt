@@ -1,3 +1,4 @@
-pub mod Filling
+pub mod Converted
 pub mod Door
+pub mod Filling
 pub mod Wrote

@@ -1,10 +1,11 @@
 //! Tables, good and bad, written into lent buffers of any length: what is the same for all that writes tables.
 
+use paper::forms::Form;
 use paper::tables::{ObjectRow, Refusal, MOST_HOLD, MOST_OBJECTS};
 
 use crate::generate::handed_in;
 use crate::random::Random;
-use crate::tally::{agree, hex, Tally};
+use crate::tally::{agree, hex, in_form, Tally};
 use crate::{cform, ffi};
 
 /// A function that writes a table into a buffer, on paper.
@@ -20,8 +21,8 @@ pub struct Writer {
     pub library: InLibrary,
     /// How many bytes these rows take.
     pub needed: fn(&[ObjectRow]) -> usize,
-    /// What reads in the library what this has written.
-    pub reader: fn(&[u8]) -> Result<ffi::ReadAnswer, ffi::LentChanged>,
+    /// Looks whether the library reads these bytes, which this has written, as these rows in the same order.
+    pub reads_back: fn(&[u8], &[ObjectRow]) -> Result<(), String>,
 }
 
 /// The classes of buffers that are counted apart.
@@ -32,12 +33,7 @@ impl Writer {
     /// What must be seen when this goes through many tables.
     pub fn expect(&self, tally: &mut Tally) {
         tally.expect("tables to write", 100_000);
-        for class in LARGE_ENOUGH {
-            tally.expect(format!("written, and read back, with {class}"), 1000);
-        }
-        for class in TOO_SMALL {
-            tally.expect(format!("refusal 16 with {class}"), 1000);
-        }
+        expect_buffers(None, tally);
         for number in [4, 6, 7, 8, 9] {
             tally.expect(format!("refusal {number}"), 500);
             tally.expect(format!("refusal {number}, before a buffer too small"), 100);
@@ -64,20 +60,13 @@ impl Writer {
         tally.add("tables to write", 1);
         match answer {
             Ok(length) => {
-                self.reads_back(&expected.1[..length], &rows[..count])?;
+                (self.reads_back)(&expected.1[..length], &rows[..count])?;
                 tell_written(count, &rows, tally);
             }
             Err(refusal) => tell_refused(refusal, given.len() < needed, tally),
         }
-        tell_buffer(&answer, given.len(), needed, tally);
+        tell_buffer(None, &answer, given.len(), needed, tally);
         Ok(())
-    }
-
-    /// The library reads these bytes as these rows, in the same order.
-    pub fn reads_back(&self, bytes: &[u8], rows: &[ObjectRow]) -> Result<(), String> {
-        let expected = cform::read_answer(&Ok(rows.to_vec()));
-        let what = format!("what {} has written, read", self.name);
-        agree(&what, &Ok(expected), &(self.reader)(bytes), || hex(bytes))
     }
 }
 
@@ -92,7 +81,30 @@ fn buffer(random: &mut Random, needed: usize) -> Vec<u8> {
         7 => random.between(needed, 5000),
         _ => needed,
     };
-    (0..length).map(|_| random.byte()).collect()
+    random.bytes(length)
+}
+
+/// Lengths of buffers for so many bytes that are needed: every one close to it, none, and some smaller and larger.
+pub fn lengths_near(random: &mut Random, needed: usize) -> Vec<usize> {
+    let mut lengths: Vec<usize> = (needed.saturating_sub(4)..=needed + 4).collect();
+    lengths.push(0);
+    lengths.push(random.between(0, needed));
+    lengths.push(random.between(needed, 2 * needed + 40));
+    lengths
+}
+
+/// What must be seen of buffers where something is written or refused with 16, in a form if these are counted apart.
+pub fn expect_buffers(form: Option<Form>, tally: &mut Tally) {
+    for class in LARGE_ENOUGH {
+        tally.expect(line(form, &format!("written with {class}")), 1000);
+    }
+    for class in TOO_SMALL {
+        tally.expect(line(form, &format!("refusal 16 with {class}")), 1000);
+    }
+}
+
+fn line(form: Option<Form>, what: &str) -> String {
+    form.map_or(what.to_string(), |form| in_form(form, what))
 }
 
 fn tell_written(count: usize, rows: &[ObjectRow], tally: &mut Tally) {
@@ -120,7 +132,13 @@ fn tell_refused(refusal: Refusal, too_small: bool, tally: &mut Tally) {
 }
 
 /// How the buffer was, where all depends on it.
-fn tell_buffer(answer: &Result<usize, Refusal>, length: usize, needed: usize, tally: &mut Tally) {
+pub fn tell_buffer(
+    form: Option<Form>,
+    answer: &Result<usize, Refusal>,
+    length: usize,
+    needed: usize,
+    tally: &mut Tally,
+) {
     let class = match length {
         0 => TOO_SMALL[0],
         _ if length + 1 < needed => TOO_SMALL[1],
@@ -129,9 +147,10 @@ fn tell_buffer(answer: &Result<usize, Refusal>, length: usize, needed: usize, ta
         _ if length == needed + 1 => LARGE_ENOUGH[1],
         _ => LARGE_ENOUGH[2],
     };
-    match answer {
-        Ok(_) => tally.add(&format!("written, and read back, with {class}"), 1),
-        Err(Refusal { number: 16, .. }) => tally.add(&format!("refusal 16 with {class}"), 1),
-        Err(_) => {}
-    }
+    let what = match answer {
+        Ok(_) => "written",
+        Err(Refusal { number: 16, .. }) => "refusal 16",
+        Err(_) => return,
+    };
+    tally.add(&line(form, &format!("{what} with {class}")), 1);
 }

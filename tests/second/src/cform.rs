@@ -1,9 +1,11 @@
 //! The answers of the paper in the form of C, and run states in the form of C judged by the paper.
 
+use paper::forms::{self, Form};
 use paper::planning::PlanRow;
+use paper::reading::{Part, Source};
 use paper::running::Value;
 use paper::states::{broken, Condition, RunState, StateRow, Stored};
-use paper::tables::{ObjectRow, Part, Refusal, Source};
+use paper::tables::{ObjectRow, Refusal};
 
 use crate::ffi;
 
@@ -64,6 +66,47 @@ pub fn handed_in(count: usize, rows: &[ObjectRow]) -> ffi::Table {
     ffi::Table { count, ..table(rows) }
 }
 
+/// The number of a form, or of none.
+pub fn form(form: Option<Form>) -> u32 {
+    match form {
+        None => ffi::FORM_NONE,
+        Some(Form::One) => ffi::FORM_ONE,
+        Some(Form::Two) => ffi::FORM_TWO,
+    }
+}
+
+/// The form that a number tells, if it tells one.
+pub fn form_told(number: u32) -> Option<Form> {
+    forms::FORMS.into_iter().find(|one| form(Some(*one)) == number)
+}
+
+/// Rows and first releases as they are handed in to be written, with a form and a count that may be any.
+pub fn stored_handed_in(form: u32, count: usize, rows: &[ObjectRow], firsts: &[u32]) -> ffi::Stored {
+    let mut stored = ffi::Stored {
+        form,
+        table: handed_in(count, rows),
+        ..ffi::Stored::default()
+    };
+    stored.firsts[..firsts.len()].copy_from_slice(firsts);
+    stored
+}
+
+/// What stored bytes hold, zero beyond their count.
+pub fn stored(stored: &forms::Stored) -> ffi::Stored {
+    stored_handed_in(form(Some(stored.form)), stored.rows.len(), &stored.rows, &stored.firsts)
+}
+
+/// Refused bytes hold no form, no rows and no first releases.
+pub fn stored_answer(answer: &Result<forms::Stored, Refusal>) -> ffi::StoredAnswer {
+    ffi::StoredAnswer {
+        verdict: verdict(answer),
+        stored: match answer {
+            Ok(held) => stored(held),
+            Err(_) => ffi::Stored::default(),
+        },
+    }
+}
+
 /// What is refused has size 0.
 pub fn written(answer: &Result<usize, Refusal>) -> ffi::Written {
     ffi::Written {
@@ -72,7 +115,7 @@ pub fn written(answer: &Result<usize, Refusal>) -> ffi::Written {
     }
 }
 
-/// A refused read hands back a table with count 0 and every field zero.
+/// Refused rows, or a refused sheet, hand back a table with count 0 and every field zero.
 pub fn read_answer(answer: &Result<Vec<ObjectRow>, Refusal>) -> ffi::ReadAnswer {
     ffi::ReadAnswer {
         verdict: verdict(answer),
@@ -131,6 +174,7 @@ pub fn part(part: &Part) -> ffi::Part {
             Source::Site => ffi::SITE,
             Source::Factory => ffi::FACTORY,
         },
+        form: form(part.form),
         start: part.start,
         size: part.bytes.len(),
     }

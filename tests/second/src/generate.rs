@@ -284,6 +284,29 @@ pub fn first_releases(random: &mut Random, planned: &[PlanRow]) -> Vec<u32> {
     planned.iter().map(first).collect()
 }
 
+/// So many numbers to be stored as first releases: often 0 everywhere, or 0 but for one of them, or any.
+pub fn first_words(random: &mut Random, count: usize) -> Vec<u32> {
+    let mut firsts = vec![0; count];
+    match random.below(8) {
+        0..=2 => {}
+        3 | 4 => {
+            for _ in 0..random.between(1, 2) {
+                firsts[place(random, count)] = first_word(random);
+            }
+        }
+        5 => firsts.fill_with(|| first_word(random)),
+        6 => firsts.fill_with(|| random.words(0, 3)),
+        _ => firsts.fill_with(|| random.word()),
+    }
+    firsts
+}
+
+/// A number other than 0, often in one of its four bytes alone.
+fn first_word(random: &mut Random) -> u32 {
+    let any = random.word().max(1);
+    random.pick(&[1, 1 << 8, 1 << 16, 1 << 24, 1 << 31, u32::MAX, any])
+}
+
 /// A clock value, often a few thousand below the turn of the clock.
 pub fn clock(random: &mut Random) -> u32 {
     match random.below(8) {

@@ -7,11 +7,16 @@
 #![forbid(unsafe_code)]
 
 pub mod classic;
+pub mod converting;
+pub mod form_numbers;
+pub mod forms;
 pub mod held_numbers;
 pub mod numbers;
 pub mod planning;
+pub mod reading;
 pub mod running;
 pub mod sheet;
+pub mod starting;
 pub mod states;
 pub mod tables;
 pub mod writing;

@@ -10,11 +10,16 @@ mod cform;
 #[allow(unsafe_code)]
 mod ffi;
 mod generate;
+mod header;
+mod part_converting;
+mod part_form_numbers;
+mod part_forms;
 mod part_holds;
 mod part_numbers;
 mod part_plans;
 mod part_runs;
 mod part_sheets;
+mod part_starting;
 mod part_states;
 mod part_tables;
 mod part_writing;
@@ -32,16 +37,23 @@ const SEED: u64 = 0x4D4C_2026_0001;
 /// A part of the comparison: its title, and what it does with a seed.
 type Part = (&'static str, fn(u64) -> Result<(), String>);
 
-const PARTS: [Part; 9] = [
+const PARTS: [Part; 13] = [
     ("part 1: stored tables", part_tables::stored_tables),
     ("part 2: the choice and the second door", part_tables::choices_and_lists),
     ("part 3: row tables planned", part_plans::row_tables),
     ("part 4: starts and runs", part_runs::starts_and_runs),
     ("part 5: damaged run states", part_states::damaged_states),
     ("part 6: the paper's own numbers", part_numbers::numbers),
-    ("part 7: tables written", part_writing::written_tables),
+    ("part 7: tables written in form one", part_writing::written_tables),
     ("part 8: the reseller's sheet", part_sheets::sheets),
     ("part 9: numbers with holds", part_holds::numbers),
+    ("part 10: both forms written", part_forms::written_forms),
+    ("part 11: one form converted to the other", part_converting::conversions),
+    ("part 12: starts from stored bytes", part_starting::starts),
+    (
+        "part 13: stored bytes of both forms, by hand",
+        part_form_numbers::numbers,
+    ),
 ];
 
 fn main() -> ExitCode {

@@ -1,6 +1,7 @@
 //! Part 9: numbers with holds, held against the library: plans, stored bytes, lines of a sheet, refusal 6 at every
 //! door, and runs slot by slot. The paper's modules have most of them in their own tests.
 
+use paper::forms::Stored;
 use paper::held_numbers::{HELD, WAITING, WAITING_FIRSTS, WAITING_SLOTS};
 use paper::tables::{refused, refused_at, ObjectRow, Refusal};
 
@@ -64,7 +65,8 @@ fn stored_bytes(tally: &mut Tally) -> Result<(), String> {
         bytes.extend(u32::to_le_bytes(validity));
         bytes.extend([20, 0, 0, 0, 1, 0, 0x4D, 0x4C]);
         let row = |hold| vec![ObjectRow::held(9, cost, validity, hold)];
-        let expected = cform::read_answer(&answer.map(row));
+        let held = |hold| Stored::one(&row(hold));
+        let expected = cform::stored_answer(&answer.map(held));
         agree("channelfox_read", &Ok(expected), &ffi::read(&bytes), || hex(&bytes))?;
         if let Ok(hold) = answer {
             let library = ffi::write(&cform::table(&row(hold)), &[0xEE; 20]);

@@ -1,5 +1,6 @@
 //! Part 6: the paper's own numbers, held against the library. The paper's modules have them in their own tests.
 
+use paper::forms::Stored;
 use paper::numbers::{CLASSIC_PLANS, FIGURE_2, PLANS};
 use paper::tables::{refused, ObjectRow};
 
@@ -68,7 +69,8 @@ fn stored_bytes(tally: &mut Tally) -> Result<(), String> {
         (vec![20, 0, 0, 0, 1, 0, 0x4D, 0x4C], Err(refused(15))),
     ];
     for (bytes, answer) in answers {
-        let expected = Ok(cform::read_answer(&answer));
+        let answer = answer.map(|rows| Stored::one(&rows));
+        let expected = Ok(cform::stored_answer(&answer));
         agree("channelfox_read", &expected, &ffi::read(&bytes), || hex(&bytes))?;
         tally.add("stored bytes of the paper", 1);
     }

@@ -17,8 +17,14 @@ const EXPORT: Writer = Writer {
     paper: export,
     library: ffi::export,
     needed: |rows| sheet(rows).len(),
-    reader: ffi::import,
+    reads_back,
 };
+
+fn reads_back(bytes: &[u8], rows: &[ObjectRow]) -> Result<(), String> {
+    let expected = cform::read_answer(&Ok(rows.to_vec()));
+    let what = "what channelfox_export has written, imported";
+    agree(what, &Ok(expected), &ffi::import(bytes), || hex(bytes))
+}
 
 pub fn sheets(seed: u64) -> Result<(), String> {
     let mut tally = Tally::new();

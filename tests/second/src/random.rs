@@ -34,6 +34,11 @@ impl Random {
         (self.next() >> 56) as u8
     }
 
+    /// So many bytes, each of them any.
+    pub fn bytes(&mut self, length: usize) -> Vec<u8> {
+        (0..length).map(|_| self.byte()).collect()
+    }
+
     /// A number from 0 up to but not including the limit.
     pub fn below(&mut self, limit: usize) -> usize {
         ((u128::from(self.next()) * limit as u128) >> 64) as usize

@@ -1,14 +1,18 @@
-//! Random stored tables, good and damaged.
+//! Random stored tables of both forms, good and damaged.
 
-use paper::tables::{ObjectRow, MARK, MOST_BYTES, MOST_HOLD, MOST_OBJECTS, RECORD, TRAILER};
+use paper::forms::{Form, FORMS, TRAILER};
+use paper::tables::{ObjectRow, MOST_BYTES, MOST_HOLD, MOST_OBJECTS};
 
-use crate::generate::{bad_cost, bad_validity, object_count, object_rows, overload_rows, place, Times};
+use crate::generate::{bad_cost, bad_validity, first_words, object_count, object_rows, overload_rows, place, Times};
 use crate::random::Random;
 
 /// A stored table in its parts, which need not fit together.
 struct Draft {
+    /// How the records are laid out, whatever the mark tells.
+    form: Form,
     before: Vec<u8>,
     records: Vec<ObjectRow>,
+    firsts: Vec<u32>,
     between: Vec<u8>,
     distance: u32,
     count: u16,
@@ -17,7 +21,7 @@ struct Draft {
 
 /// A stored table of any kind.
 pub fn any(random: &mut Random) -> Vec<u8> {
-    match random.below(21) {
+    match random.below(23) {
         0 => tiny(random),
         1 => noise(random),
         2..=6 => good(random),
@@ -45,6 +49,7 @@ pub fn any(random: &mut Random) -> Vec<u8> {
             flip_bits(random, bytes)
         }
         19 => told_of_too_many(random),
+        20 | 21 => under_the_other_mark(random),
         _ => spoiled_in_many_ways(random),
     }
 }
@@ -56,14 +61,28 @@ pub fn good(random: &mut Random) -> Vec<u8> {
 
 /// A stored table that does not, most of the time.
 pub fn bad(random: &mut Random) -> Vec<u8> {
-    match random.below(4) {
+    match random.below(5) {
         0 => tiny(random),
         1 => noise(random),
         2 => {
             let bytes = good(random);
             flip_bits(random, bytes)
         }
+        3 => under_the_other_mark(random),
         _ => spoiled_in_many_ways(random),
+    }
+}
+
+/// A stored table of these rows and first releases, which reads if they are good. In form one the latter are left out.
+pub fn of_rows(random: &mut Random, form: Form, rows: &[ObjectRow], firsts: &[u32]) -> Vec<u8> {
+    drafted(random, form, rows.to_vec(), firsts.to_vec()).bytes()
+}
+
+/// These bytes damaged in a way that may leave them good.
+pub fn damaged(random: &mut Random, bytes: Vec<u8>) -> Vec<u8> {
+    match random.one_in(3) {
+        true => cut(random, bytes),
+        false => flip_bits(random, bytes),
     }
 }
 
@@ -80,11 +99,11 @@ pub fn to_write_again(random: &mut Random) -> Vec<u8> {
 }
 
 /// A stored table that reads and has no unread bytes.
-fn without_gap(random: &mut Random) -> Vec<u8> {
+pub fn without_gap(random: &mut Random) -> Vec<u8> {
     let mut draft = good_draft(random);
     draft.before.clear();
     draft.between.clear();
-    draft.distance = draft.length() as u32;
+    draft.fit_trailer();
     draft.bytes()
 }
 
@@ -101,17 +120,28 @@ fn good_draft(random: &mut Random) -> Draft {
     if random.one_in(6) {
         overload_rows(random, &mut rows);
     }
-    let room = MOST_BYTES - TRAILER - RECORD * count;
+    let firsts = first_words(random, count);
+    let form = random.pick(&FORMS);
+    drafted(random, form, rows, firsts)
+}
+
+/// A draft of these rows with a trailer that fits, and any gaps.
+fn drafted(random: &mut Random, form: Form, records: Vec<ObjectRow>, firsts: Vec<u32>) -> Draft {
+    let room = MOST_BYTES - form.length(records.len());
     let before = gap(random, room);
     let between = gap(random, room - before.len());
-    Draft {
-        distance: (TRAILER + RECORD * count + between.len()) as u32,
-        count: count as u16,
-        mark: MARK,
-        records: rows,
+    let mut draft = Draft {
+        form,
         before,
+        records,
+        firsts,
         between,
-    }
+        distance: 0,
+        count: 0,
+        mark: form.mark(),
+    };
+    draft.fit_trailer();
+    draft
 }
 
 /// Bytes that are not read: mostly none or a few, sometimes all there is room for.
@@ -122,22 +152,21 @@ fn gap(random: &mut Random, room: usize) -> Vec<u8> {
         5 | 6 => random.between(0, 40).min(room),
         _ => random.pick(&[room, room / 2]),
     };
-    noise_of(random, length)
-}
-
-fn noise_of(random: &mut Random, length: usize) -> Vec<u8> {
-    (0..length).map(|_| random.byte()).collect()
+    random.bytes(length)
 }
 
 impl Draft {
     fn bytes(&self) -> Vec<u8> {
         let mut bytes = self.before.clone();
-        for record in &self.records {
+        for (record, first) in self.records.iter().zip(&self.firsts) {
             bytes.extend(record.id.to_le_bytes());
             // Every hold of a draft, good or bad, is one that the two bytes can tell.
             bytes.extend(((record.hold - 1) as u16).to_le_bytes());
             bytes.extend(record.cost.to_le_bytes());
             bytes.extend(record.validity.to_le_bytes());
+            if self.form == Form::Two {
+                bytes.extend(first.to_le_bytes());
+            }
         }
         bytes.extend(&self.between);
         bytes.extend(self.distance.to_le_bytes());
@@ -147,8 +176,31 @@ impl Draft {
     }
 
     fn length(&self) -> usize {
-        self.before.len() + self.records.len() * RECORD + self.between.len() + TRAILER
+        self.before.len() + self.form.length(self.records.len()) + self.between.len()
     }
+
+    /// Tells count and distance as the other parts ask for.
+    fn fit_trailer(&mut self) {
+        self.count = self.records.len() as u16;
+        self.distance = (self.length() - self.before.len()) as u32;
+    }
+}
+
+/// The records of one form under the mark of the other, half of the time with bytes enough for that one, and often just
+/// one or two records: these may read.
+fn under_the_other_mark(random: &mut Random) -> Vec<u8> {
+    let mut draft = good_draft(random);
+    if random.one_in(2) {
+        draft.records.truncate(random.between(1, 2));
+        draft.firsts.truncate(draft.records.len());
+    }
+    if random.one_in(2) && draft.length() + 4 * draft.records.len() <= MOST_BYTES {
+        let more = random.bytes(4 * draft.records.len());
+        draft.between.extend(more);
+    }
+    draft.fit_trailer();
+    draft.mark = draft.form.other().mark();
+    draft.bytes()
 }
 
 /// One to four faults in the records, half of them in the record of the fault before: so the order of the checks within
@@ -192,7 +244,9 @@ fn spoil_trailer(random: &mut Random, draft: &mut Draft) {
 
 /// A distance near one of its limits, or far off, or any.
 fn odd_distance(random: &mut Random, draft: &Draft) -> u32 {
-    let needed = (TRAILER + RECORD * draft.records.len()) as u32;
+    let needed = draft.form.length(draft.records.len()) as u32;
+    // What the other form asks for: less or more by 4 for each record.
+    let other = draft.form.other().length(draft.records.len()) as u32;
     let length = draft.length() as u32;
     let any = random.word();
     let within = random.words(needed, length);
@@ -207,7 +261,9 @@ fn odd_distance(random: &mut Random, draft: &Draft) -> u32 {
         0,
         7,
         8,
-        needed - RECORD as u32,
+        needed - draft.form.record() as u32,
+        other,
+        other - 1,
         any % 5000,
         any,
         1 << 31,
@@ -217,15 +273,15 @@ fn odd_distance(random: &mut Random, draft: &Draft) -> u32 {
     ])
 }
 
-/// A trailer that tells of more records than the bytes can hold, with a distance around the number of bytes and 8 + 12
-/// times n: so checks 5 and 15 both apply, or one of them.
+/// A trailer that tells of more records than the bytes can hold, with a distance around the number of bytes and what so
+/// many records take: so checks 5 and 15 both apply, or one of them.
 fn told_of_too_many(random: &mut Random) -> Vec<u8> {
     let mut draft = good_draft(random);
-    let fit = (draft.length() - TRAILER) / RECORD;
+    let fit = (draft.length() - TRAILER) / draft.form.record();
     if fit < MOST_OBJECTS {
         draft.count = random.between(fit + 1, MOST_OBJECTS) as u16;
     }
-    let needed = TRAILER as u32 + RECORD as u32 * u32::from(draft.count);
+    let needed = draft.form.length(usize::from(draft.count)) as u32;
     let length = draft.length() as u32;
     let any = random.words(length.min(needed), length.max(needed));
     draft.distance = random.pick(&[length, length + 1, needed - 1, needed, needed + 1, any]);
@@ -247,15 +303,19 @@ fn odd_count(random: &mut Random, good: u16) -> u16 {
     ])
 }
 
+/// Two bytes that are no mark, or the mark of the other form, or close to either.
 fn odd_mark(random: &mut Random) -> [u8; 2] {
-    let [first, second] = MARK;
+    let [first, second] = random.pick(&FORMS).mark();
     let any = random.byte();
     random.pick(&[
+        [first, second],
         [second, first],
         [first, any],
         [any, second],
         [0, 0],
         [first, first],
+        [second, second],
+        [first, second ^ 1],
         [any, any],
     ])
 }
@@ -265,9 +325,9 @@ fn lengthen(random: &mut Random, draft: &mut Draft) {
     let length = random.pick(&[MOST_BYTES, MOST_BYTES + 1, MOST_BYTES + 1, MOST_BYTES + 2, 5000, 70_000]);
     let more = length - draft.length().min(length);
     if random.one_in(2) {
-        draft.before.extend(noise_of(random, more));
+        draft.before.extend(random.bytes(more));
     } else {
-        draft.between.extend(noise_of(random, more));
+        draft.between.extend(random.bytes(more));
         if random.one_in(2) {
             draft.distance = draft.distance.wrapping_add(more as u32);
         }
@@ -276,12 +336,12 @@ fn lengthen(random: &mut Random, draft: &mut Draft) {
 
 /// At most nine bytes, sometimes with a trailer that would be good if there were something before it.
 fn tiny(random: &mut Random) -> Vec<u8> {
-    let mut trailer = noise_of(random, 2);
+    let mut trailer = random.bytes(2);
     trailer.extend(random.words(8, 33).to_le_bytes());
     trailer.extend([1, 0]);
-    trailer.extend(MARK);
+    trailer.extend(random.pick(&FORMS).mark());
     if random.one_in(2) {
-        trailer = noise_of(random, trailer.len());
+        trailer = random.bytes(trailer.len());
     }
     if random.one_in(4) {
         trailer.fill(0);
@@ -289,17 +349,17 @@ fn tiny(random: &mut Random) -> Vec<u8> {
     trailer.split_off(1 + random.below(trailer.len()))
 }
 
-/// Any bytes, sometimes with the mark, and sometimes with a count and a distance that may do.
+/// Any bytes, sometimes with a mark, and sometimes with a count and a distance that may do.
 fn noise(random: &mut Random) -> Vec<u8> {
     let most = random.pick(&[20, 40, 200, 1000, 4100]);
     let length = random.between(8, most);
-    let mut bytes = noise_of(random, length);
+    let mut bytes = random.bytes(length);
     if random.one_in(4) {
         bytes.fill(0);
     }
     let trailer = length - TRAILER;
     if !random.one_in(4) {
-        bytes[length - 2..].copy_from_slice(&MARK);
+        bytes[length - 2..].copy_from_slice(&random.pick(&FORMS).mark());
     }
     if !random.one_in(3) {
         let count = random.words(0, 66) as u16;

@@ -2,6 +2,8 @@
 
 use std::fmt::Debug;
 
+use paper::forms::Form;
+
 use crate::random::Random;
 
 /// Counts of what was seen, in the order in which they are printed.
@@ -73,8 +75,16 @@ pub fn class(place: u32, count: usize) -> &'static str {
     }
 }
 
+/// A line of the tally for what is counted apart for the forms.
+pub fn in_form(form: Form, what: &str) -> String {
+    match form {
+        Form::One => format!("form one: {what}"),
+        Form::Two => format!("form two: {what}"),
+    }
+}
+
 /// Holds the answers of the paper and of the library together. The input is only told where they differ.
-pub fn agree<T: PartialEq + Debug>(
+pub fn agree<T: PartialEq + Debug + ?Sized>(
     what: &str,
     paper: &T,
     library: &T,

@@ -27,13 +27,13 @@ plan-form-requires-2 c κs = search needs
 
 returns : tie.Need-returns
 returns c =
-    let r = c .before .before .before .before .before .read .ensures in
+    let r = c .before .before .before .before .before .before .read .ensures in
     let e = c .before .before .enum-told .given .1 in
     c .plan-form .ensures ∙ rw (c .before .plan-table .ensures, ← r, e)
 
 returns-2 : tie.Need-returns-2
 returns-2 c =
-    let r = c .before .before .before .before .before .read .ensures in
+    let r = c .before .before .before .before .before .before .read .ensures in
     let e = c .before .before .enum-told2 .given .1 in
     c .plan-form2 .ensures ∙ rw (c .before .empty-plan .ensures, ← r, e)
 

@@ -11,11 +11,12 @@ pub use Rattle.rules.specs.declared.Verdict.the-variants.{Accepted}
 -- the number and the place that an answer tells
 pub use Rattle.rules.specs.Refusals.{Told, _atPlace_, told, readingTold}
 -- its checks, its plan, when a run state is acceptable, and the run
-pub use Rattle.rules.specs.StoredTable.{noRow, tableVerdict}
+pub use Rattle.rules.specs.StoredTable.{noRow, tableVerdict, countOf, formOf, rowOf, firstAt, readOf}
 pub use Rattle.rules.specs.Deadlines.{noPlanRow, planOf}
 pub use Rattle.rules.specs.RunState.{usedRows, acceptable}
 pub use Rattle.rules.specs.Run.{tick, startOf, begunOf, releasedOf, stepOne, stepTwo, stepThree, slotOf, stepped, steppedOf}
-pub use Rattle.rules.specs.Run.{readingOf, trueReading}
+pub use Rattle.rules.specs.Order.{firstsInOrder}
+pub use Rattle.rules.specs.Run.{startStoredOf, readingOf, trueReading}
 -- the order, the deadline, what is planned, what was before request 6, and the grounds of an answer
 pub use Rattle.promises.specs.OnlyOrder.{Ordered}
 pub use Rattle.promises.specs.Exactly.{FirstWithout}
@@ -24,6 +25,7 @@ pub use Rattle.rules.proofs.Lists.{Every}
 pub use Rattle.promises.specs.HoldsOfOne.{HoldsOne, plan01, step01}
 pub use Rattle.promises.specs.PlanExactly.{ordered, plansIn, placesIn, IdsDiffer, PlannedBetween}
 pub use Rattle.promises.specs.StartExactly.{GroundOf}
+pub use Rattle.promises.specs.StartStored.{StoredGround, recordAt}
 pub use Rattle.promises.specs.ReadExactly.{NoneHas}
 -- the run after so many slots, calls, and objects of a run
 pub use Rattle.promises.specs.Runs.{runAfter, Fits, runRow, plans, DueAt, NothingLeft, RunObject, goingOn, objectsIn, IsRelease}

@@ -34,6 +34,9 @@ mul-is c = search needs
 element-copy-out-is : tie.Need-element-copy-out-is Inv-loop μ-loop
 element-copy-out-is c = search needs
 
+released-requires : tie.Need-released-requires Inv-loop μ-loop
+released-requires c κs = search needs
+
 ran-requires : tie.Need-ran-requires Inv-loop μ-loop
 ran-requires c κs = search needs
 
@@ -69,6 +72,7 @@ owner-spec =
     cast-is
     mul-is
     element-copy-out-is
+    released-requires
     ran-requires
     in-hold-requires
     owner-at-requires

@@ -1,16 +1,14 @@
--- The holds of request 6 along a slot: steps 1 and 3 begin none and end none, and at most one row is in its hold after a slot if so before it.
--- Assumes nothing.
+-- The holds of request 6 along a slot: steps 1 and 3 begin none and end none. Assumes nothing.
 use Prim.Native.Nat.{ℕ, zero, suc, _-_, _≤_, _<_}
 use mathlib.Core.Path.{_≡_, refl, sym, _∙_}
 use mathlib.Core.Bool.{Bool, true, false, cond, not, _&&_}
 use mathlib.Core.List.{List, [], _∷_, map}
 use native.Mathlib.Omega.{arith}
-use borrow.Author.Tests.{eq-eqb, ne-eqb, le-ltb, not-true}
+use borrow.Author.Tests.{eq-eqb, ne-eqb, le-ltb}
 use lib.Dec.{eqb, leb, ltb}
 use Rattle.rules.specs.declared.RunRow.{RunRow}
-use Rattle.rules.specs.RunState.{doneOf, inHold, any, oneHold}
-use Rattle.rules.specs.Run.{tick, releasedOf, begunOf, skippedOf, servedOf, serveFirst, mayWork, agedOf, stepOne, slotRows}
-use Rattle.rules.proofs.Tests.{and-left, or-false}
+use Rattle.rules.specs.RunState.{doneOf, inHold, any}
+use Rattle.rules.specs.Run.{releasedOf, begunOf, skippedOf, mayWork, agedOf, stepOne}
 
 -- ── One row ──
 
@@ -79,62 +77,5 @@ module _ (f : RunRow → RunRow) (q : (r : RunRow) → inHold (f r) ≡ inHold r
   any-same [] = refl
   any-same (r ∷ rs) = rw (q r, any-same rs)
 
-  one-same : (rows : List RunRow) → oneHold (map f rows) ≡ oneHold rows
-  unfolding oneHold
-  one-same [] = refl
-  one-same (r ∷ rs) = rw (q r, any-same rs, one-same rs)
-
 pub any-released : (clock : ℕ) (rows : List RunRow) → any inHold (stepOne clock rows) ≡ any inHold rows
 any-released clock rows = any-same (releasedOf clock) (released-hold clock) rows
-
--- ── A slot leaves at most one row in its hold ──
-
-none-one : (rows : List RunRow) → any inHold rows ≡ false → oneHold rows ≡ true
-unfolding any oneHold
-none-one [] h = refl
-none-one (r ∷ rs) h =
-    let o = or-false (inHold r) (any inHold rs) h in
-    rw (o .0, none-one rs (o .1))
-
--- one row in front of rows of which none is in its hold
-one-front : (r : RunRow) (rs : List RunRow) → any inHold rs ≡ false → oneHold (r ∷ rs) ≡ true
-unfolding oneHold
-one-front r rs h = rw (h, and-no (inHold r), none-one rs h)
-
--- none was in its hold
-worked-none : (p : RunRow → Bool) (rows : List RunRow) → any inHold rows ≡ false → oneHold (serveFirst p rows) ≡ true
-unfolding any oneHold serveFirst
-worked-none p [] h = refl
-worked-none p (r ∷ rs) h =
-    let o = or-false (inHold r) (any inHold rs) h in
-    by-turn (p r) (o .0) (o .1) (worked-none p rs (o .1))
-  where
-    by-turn : (t : Bool) → inHold r ≡ false → any inHold rs ≡ false → oneHold (serveFirst p rs) ≡ true → oneHold (cond t (servedOf r ∷ rs) (r ∷ serveFirst p rs)) ≡ true
-    by-turn true a b w = one-front (servedOf r) rs b
-    by-turn false a b w = rw (a, w)
-
--- one was, and works
-worked-held : (p : RunRow → Bool) → ((r : RunRow) → p r ≡ inHold r) → (rows : List RunRow) → oneHold rows ≡ true → oneHold (serveFirst p rows) ≡ true
-unfolding oneHold serveFirst
-worked-held p q [] h = refl
-worked-held p q (r ∷ rs) h = rw (q r) (by-hold (inHold r) refl h (worked-held p q rs))
-  where
-    by-hold : (t : Bool) → inHold r ≡ t → not (t && any inHold rs) && oneHold rs ≡ true → (oneHold rs ≡ true → oneHold (serveFirst p rs) ≡ true) → oneHold (cond t (servedOf r ∷ rs) (r ∷ serveFirst p rs)) ≡ true
-    by-hold true e o w = one-front (servedOf r) rs (not-true (any inHold rs) (and-left (not (any inHold rs)) (oneHold rs) o))
-    by-hold false e o w = rw (e, w o)
-
-work-keeps : (holding : Bool) (rows : List RunRow) → any inHold rows ≡ holding → oneHold rows ≡ true → oneHold (serveFirst (mayWork holding) rows) ≡ true
-unfolding mayWork
-work-keeps true rows e h = worked-held (mayWork true) (λ r. refl) rows h
-work-keeps false rows e h = worked-none (mayWork false) rows e
-
--- so acceptance's last condition is kept
-pub slot-one : (clock : ℕ) (stolen : Bool) (rows : List RunRow) → oneHold rows ≡ true → oneHold (slotRows clock stolen rows) ≡ true
-slot-one clock stolen rows h = one-same (agedOf (tick clock)) (aged-hold (tick clock)) _ ∙ by-stolen stolen
-  where
-    released : oneHold (stepOne clock rows) ≡ true
-    released = one-same (releasedOf clock) (released-hold clock) rows ∙ h
-
-    by-stolen : (s : Bool) → oneHold (cond s (stepOne clock rows) (serveFirst (mayWork (any inHold (stepOne clock rows))) (stepOne clock rows))) ≡ true
-    by-stolen true = released
-    by-stolen false = work-keeps _ (stepOne clock rows) refl released

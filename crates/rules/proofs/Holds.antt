@@ -9,12 +9,9 @@ use lib.Dec.{eqb, leb, ltb}
 use Rattle.rules.specs.declared.RunRow.{RunRow}
 use Rattle.rules.specs.RunState.{doneOf, inHold, any}
 use Rattle.rules.specs.Run.{releasedOf, begunOf, skippedOf, mayWork, agedOf, stepOne}
+use Rattle.rules.proofs.Tests.{and-no}
 
 -- ── One row ──
-
-and-no : (a : Bool) → a && false ≡ false
-and-no true = refl
-and-no false = refl
 
 and-false : (a b : Bool) → a && false && b ≡ false
 and-false true b = refl

@@ -10,7 +10,7 @@ use lib.ListN.{length, take, drop, getD, set, length-set}
 use Rattle.rules.specs.declared.RunRow.{RunRow}
 use Rattle.rules.specs.declared.Run.{Run}
 use Rattle.rules.specs.RunState.{every, idOf, distinct, rowOk, rowNone, inHold, any, oneHold, usedRows, acceptable}
-use Rattle.rules.proofs.Tests.{and-left, and-right, and-true}
+use Rattle.rules.proofs.Tests.{and-left, and-right, and-no, and-true}
 use Rattle.stepping.proofs.Scan.{every-turn, every-end, inOrder, order-turn, order-end, any-turn, any-end, ids-more}
 
 -- what a test that the code takes by `if !test` says of its definition
@@ -43,10 +43,6 @@ counted n h = by-tests (ltb n 1) refl h
 or-no : (a : Bool) → a || false ≡ a
 or-no true = refl
 or-no false = refl
-
-and-no : (a : Bool) → a && false ≡ false
-and-no true = refl
-and-no false = refl
 
 last-second : (a b c d : Bool) → a && b && c && d ≡ a && d && b && c
 last-second false b c d = refl

@@ -1,4 +1,6 @@
 // Runs the numbers of document 01 and prints the answers, a line each; the file `stdout` beside src/ has what the paper says.
+#![tactic(auto)]
+
 mod planning_cases;
 mod reading;
 mod run_cases;

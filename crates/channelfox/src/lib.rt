@@ -1,5 +1,7 @@
 // The C library: exported functions on numbers, byte slices and structs of numbers; include/channelfox.h is their C side.
 // Each hands what it gets to a function of the libraries below and turns the answer into its C form. No export has a `requires`.
+#![tactic(auto)]
+
 mod forms;
 
 ghost use Rattle.std.specs.Prelude.{◌≡◌, length};
@@ -25,7 +27,7 @@ use rules::{
 
 // A verdict: number 0 and place 0, or the refusal.
 #[repr(C)]
-#[derive(Drop)]
+#[derive(Clone, Copy)]
 pub struct CVerdict {
     pub number: u8,
     pub place: usize,
@@ -33,7 +35,7 @@ pub struct CVerdict {
 
 // A run row: `lapsed` 0 or 1; `stored` 0 none, 1 held, 2 lapsed; `held` the sample instant of a held value, otherwise 0.
 #[repr(C)]
-#[derive(Drop)]
+#[derive(Clone, Copy)]
 pub struct CRunRow {
     pub planned: PlanRow,
     pub next: u32,
@@ -46,7 +48,7 @@ pub struct CRunRow {
 }
 
 #[repr(C)]
-#[derive(Drop)]
+#[derive(Clone, Copy)]
 pub struct CRun {
     pub clock: u32,
     pub count: usize,
@@ -54,7 +56,7 @@ pub struct CRun {
 }
 
 #[repr(C)]
-#[derive(Drop)]
+#[derive(Clone, Copy)]
 pub struct CReadAnswer {
     pub verdict: CVerdict,
     pub table: Table,
@@ -62,7 +64,7 @@ pub struct CReadAnswer {
 
 // What stored bytes hold: `form` 0 none, 1 form one, 2 form two; the first releases in the order of the records.
 #[repr(C)]
-#[derive(Drop)]
+#[derive(Clone, Copy)]
 pub struct CStored {
     pub form: u32,
     pub table: Table,
@@ -70,7 +72,7 @@ pub struct CStored {
 }
 
 #[repr(C)]
-#[derive(Drop)]
+#[derive(Clone, Copy)]
 pub struct CStoredAnswer {
     pub verdict: CVerdict,
     pub stored: CStored,
@@ -78,21 +80,21 @@ pub struct CStoredAnswer {
 
 // How many bytes were written; 0 where refused.
 #[repr(C)]
-#[derive(Drop)]
+#[derive(Clone, Copy)]
 pub struct CWritten {
     pub verdict: CVerdict,
     pub size: usize,
 }
 
 #[repr(C)]
-#[derive(Drop)]
+#[derive(Clone, Copy)]
 pub struct CPlanAnswer {
     pub verdict: CVerdict,
     pub plan: Plan,
 }
 
 #[repr(C)]
-#[derive(Drop)]
+#[derive(Clone, Copy)]
 pub struct CRunAnswer {
     pub verdict: CVerdict,
     pub run: CRun,
@@ -108,7 +110,7 @@ const FRESH: u32 = 5;
 
 // A reading: which value, and the age of a fresh one; 0 and 0 where refused.
 #[repr(C)]
-#[derive(Drop)]
+#[derive(Clone, Copy)]
 pub struct CReading {
     pub verdict: CVerdict,
     pub value: u32,
@@ -117,7 +119,7 @@ pub struct CReading {
 
 // The chosen part: `source` 1 of the site bytes, 2 of the factory bytes; `form` as in `CStored`.
 #[repr(C)]
-#[derive(Drop)]
+#[derive(Clone, Copy)]
 pub struct CPart {
     pub source: u32,
     pub form: u32,

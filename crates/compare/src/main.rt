@@ -1,5 +1,7 @@
 // The compare program: reads a stored table from standard input and prints the classic plan, Half-Half, and ours, More-Less, side by
 // side with each object's share of the core, or which of the two refuses and where; why ours does, on standard error.
+#![tactic(auto)]
+
 use libc::STDIN_FILENO;
 use printing::{end, put, put_blanks, put_number, put_padded, put_text};
 use rules::{ObjectRow, Plan, PlanRow, Table, Verdict};

@@ -1,5 +1,7 @@
 // The convert program: reads a stored table of either form from standard input and writes it in the other form to standard output. Which way it
 // went stands on standard error, and so does a refusal, as "refused N at K" and why; then nothing is written.
+#![tactic(auto)]
+
 use libc::STDIN_FILENO;
 use rules::{Form, Refusal, Verdict};
 

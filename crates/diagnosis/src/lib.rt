@@ -1,5 +1,7 @@
 // What a person has to know of refused bytes: the numbers of a stored record or of a line of a sheet, by place, and what keeps a line from
 // being taken. Any bytes and any place may be asked about; what is not there counts as 0.
+#![tactic(auto)]
+
 mod line;
 mod sheet;
 mod stored;
@@ -9,7 +11,7 @@ pub use sheet::line_count;
 pub use stored::{distance, needed, object_count, record_size};
 
 // The numbers of one object as they are written, in range or not. Only records of form two have a first release.
-#[derive(Drop)]
+#[derive(Clone, Copy)]
 pub struct Row {
     pub id: u64,
     pub cost: u64,

@@ -21,7 +21,7 @@ fn kind(byte: u8) -> usize
 
 // A line looked at up to some byte: how many bytes of each kind, how many digits the open field has and its first byte, whether a field was
 // empty, whether one had a leading zero, and whether the last byte was CR.
-#[derive(Drop)]
+#[derive(Clone, Copy)]
 struct Seen {
     kinds: [u64; 8],
     digits: u64,

@@ -38,7 +38,7 @@ pub(crate) fn line_start(bytes: &[u8], line: usize) -> usize
 }
 
 // A line read up to some byte: the numbers of its first four fields, and which field is open.
-#[derive(Drop)]
+#[derive(Clone, Copy)]
 struct Fields {
     field: usize,
     numbers: [u64; 4],

@@ -1,5 +1,7 @@
 // The export program: reads a stored table from standard input and writes the reseller's sheet to standard output. A refusal is told on
 // standard error as "refused N at K" and why, and nothing is written.
+#![tactic(auto)]
+
 use libc::STDIN_FILENO;
 use rules::{Form, Table, Verdict};
 

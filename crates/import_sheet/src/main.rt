@@ -1,5 +1,7 @@
 // The import program: reads a reseller's sheet from standard input and writes the stored table to standard output. A refusal is told on
 // standard error as "refused N at K" and why, and nothing is written.
+#![tactic(auto)]
+
 use libc::STDIN_FILENO;
 use rules::{Table, Verdict};
 

@@ -1,5 +1,7 @@
 // What the programs print with: text, numbers and lines with columns to standard output; refusals, there or on standard error, with a sentence
 // for each; and how the program ended.
+#![tactic(auto)]
+
 mod line;
 mod refusals;
 mod texts;

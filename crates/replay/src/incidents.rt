@@ -4,7 +4,7 @@ use rules::{Run, RunRow, Stored};
 
 // One incident: the object's place, the slot of the release that should have renewed the value, the slot that left it stale, and the one that
 // renewed it, 0 while none has.
-#[derive(Drop)]
+#[derive(Clone, Copy)]
 pub(crate) struct Incident {
     pub row: usize,
     pub release: u32,
@@ -13,7 +13,7 @@ pub(crate) struct Incident {
 }
 
 // The first twenty, and how many there were.
-#[derive(Drop)]
+#[derive(Clone, Copy)]
 pub(crate) struct Incidents {
     pub count: usize,
     pub rows: [Incident; 20],

@@ -1,4 +1,6 @@
 // The replay program: reads a stored table from standard input, runs it slot by slot and shows what happened.
+#![tactic(auto)]
+
 mod chart;
 mod incidents;
 mod story;

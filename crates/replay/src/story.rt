@@ -5,7 +5,7 @@ use super::{chart, incidents, tallies};
 use rules::Run;
 
 // What is told of a run: its last state, the tallies, the incidents, and how many slots were stolen.
-#[derive(Drop)]
+#[derive(Clone, Copy)]
 pub(crate) struct Told {
     pub run: Run,
     pub tallies: Tallies,

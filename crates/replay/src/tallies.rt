@@ -4,7 +4,7 @@ use rules::{Run, RunRow, Stored};
 // What is counted of an object: the sample instant of its stored value, the longest age seen, how many slots left it with
 // no value and with a stale one, the instant after the last such slot, and in how many slots its job waited for one behind it that was in
 // its hold.
-#[derive(Drop)]
+#[derive(Clone, Copy)]
 pub struct Tally {
     pub sampled: u32,
     pub longest: u32,
@@ -14,7 +14,7 @@ pub struct Tally {
     pub held_up: u32,
 }
 
-#[derive(Drop)]
+#[derive(Clone, Copy)]
 pub struct Tallies {
     pub rows: [Tally; 64],
 }

@@ -5,7 +5,7 @@ use rules::{Started, Table};
 
 // A list of numbers separated by commas, read up to some byte: whether it is in order so far, whether a number is open and
 // its value, and the numbers before it. One place more than objects are possible, so that too many are seen to be so.
-#[derive(Drop)]
+#[derive(Clone, Copy)]
 pub struct List {
     pub good: bool,
     pub open: bool,
@@ -112,7 +112,7 @@ fn only(list: List) -> usize
 // The words as they are meant: how many slots, where the chart begins (1,000,001: so that it ends with the run), the first releases and whether
 // --first gave them, which word is the pattern of stolen slots (0: none), and which of --slots, --first, --stolen, --from and the names is wrong,
 // 1 to 5 (0: none).
-#[derive(Drop)]
+#[derive(Clone, Copy)]
 pub(crate) struct Words {
     pub slots: usize,
     pub from: usize,

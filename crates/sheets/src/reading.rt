@@ -13,21 +13,21 @@ const MOST_ID: u32 = 65535;
 const MOST_NUMBER: u32 = 4294967295;
 
 // How far a number was read: its value so far, and the place behind its digits.
-#[derive(Drop)]
+#[derive(Clone, Copy)]
 struct Digits {
     value: u64,
     next: usize,
 }
 
 // A field: its number and the place behind it; or none.
-#[derive(Drop)]
+#[derive(Clone, Copy)]
 enum Field {
     Missing,
     Found(u32, usize),
 }
 
 // A line: its row and the place behind it; or none.
-#[derive(Drop)]
+#[derive(Clone, Copy)]
 enum Line {
     Bad,
     Read(ObjectRow, usize),

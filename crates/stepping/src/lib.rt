@@ -1,4 +1,6 @@
 // What a run state is, and what one slot does to one row of it. Every public function takes whatever it is handed.
+#![tactic(auto)]
+
 mod acceptance;
 mod rows;
 

@@ -2,6 +2,8 @@
 // site or the factory table, a table to stored bytes, and stored bytes of one form to those of the other.
 // Any bytes and any rows may be handed in; what is bad is refused with the number and the place of document 01. The second door
 // stands here, the others in files of their own.
+#![tactic(auto)]
+
 mod choosing;
 mod converting;
 mod forms;

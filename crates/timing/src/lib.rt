@@ -1,5 +1,7 @@
 // Entries for the benchmark alone, not part of the C library: `running::slot_in_place` has a run with an enum in it and cannot be
 // exported, so a loop of it is, from the start of a run to what is seen of one row.
+#![tactic(auto)]
+
 ghost use Rattle.std.specs.Prelude.{◌≡◌};
 ghost use Rattle.rules.specs.Run.{start_of};
 ghost use Rattle.timing.specs.InPlace.{in_place_of, seen_of};
@@ -8,7 +10,7 @@ use rules::{Run, Started, Table};
 
 // What is seen of a run: its clock, and the numbers of one row.
 #[repr(C)]
-#[derive(Drop)]
+#[derive(Clone, Copy)]
 pub struct Seen {
     pub clock: u32,
     pub next: u32,

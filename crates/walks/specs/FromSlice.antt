@@ -1,12 +1,12 @@
 -- A function of the form
 --     fn f(xs: &[T]) -> B { g(h(xs)) }
 -- returns `whole xs`, where h meets `r ≡ first xs`, g meets `r ≡ second l` and `second (first xs) ≡ whole xs`: a walk of its code, by hand, once for all structs T,
--- L and B. The slice reference is Copy: one copy of what it owns goes to h, and the other is kept for the exit. All that is known of the structs is their laws, and
--- of h and g their contracts. Assumes nothing.
+-- L and B. What the slice reference owns goes to h, and nothing of it is kept for the exit, where the contract asks for none. All that is known of the structs is
+-- their laws, and of h and g their contracts. Assumes nothing.
 use Rattle.std.specs.Prelude.{◌≡◌, refl, List, [], ◌∷◌, length}
 use Rattle.std.proofs.Common.{◌∙◌, ap}
 use seplogic.Ra.Ura.{Ura}
-use mir.Syntax.{Name, Fn, imm, named, ty_named, ty_ref, local, value_local, seq, call, return, place, copy}
+use mir.Syntax.{Callee, Fn, imm, named, ty_named, ty_ref, local, value_local, seq, call, return, place, copy}
 use mir.Val.{Val}
 use base.Logic.{SProp, ent, sep, emp, via, fst∗, snd∗, ex_e, id⊢}
 use base.Fml.{Lft, Share, ftrue, flft}
@@ -22,10 +22,10 @@ use sound.WpLaws.{fm_of, WpFn-mono}
 use denote.Builtin.{SliceRefOf}
 use denote.Exit.{yes}
 use denote.Laws.{Is, shows}
-use denote.RattleType.{RattleType, owns}
+use denote.RattleType.{RattleType, owns, writtens}
 use Rattle.std.specs.Borrow.{Bor}
 use denote.Signature.{plain}
-use denote.Slice.{slice_ty, slice_val, ShrSlice, Room, shr_slice_vals, shr_slice_Tells, shr_slice_copy}
+use denote.Slice.{slice_ty, slice_val, ShrSlice, Room, shr_slice_vals, shr_slice_Tells}
 use denote.Steps.{nothing, owned, facts, heard}
 use denote.Struct.Declared.{Declared, row, fields, shape}
 use denote.Struct.Laws as LL
@@ -36,7 +36,7 @@ use denote.Triple.Entry.{Vals, on_entry}
 use denote.Triple.Spec.{triple_of}
 use denote.Triple.Statement.{Contract, Triple}
 use denote.Triple.Table.{entered, cited}
-use denote.Triple.Walked.{says, Stays, stay_none_slice, walk_of, ends_at, walked, Goes-none_slice, walk_Meets}
+use denote.Triple.Walked.{says, Stays, stay_dropped, walk_of, ends_at, walked, Goes-dropped, walk_Meets}
 
 -- what such a function is made of: the struct T of the elements; the structs L and B that h and g return, with their laws; the values; and the names of h and g
 pub record Parts : Type 2 where
@@ -51,8 +51,8 @@ pub record Parts : Type 2 where
   pub second : L.D → B.D
   pub whole : List T.D → B.D
   pub both : (xs : List T.D) → second (first xs) ≡ whole xs
-  pub h : Name
-  pub g : Name
+  pub h : Callee
+  pub g : Callee
 
 module _ (P : Parts) where
   abbrev R : RattleType
@@ -75,8 +75,10 @@ module _ (P : Parts) where
   code = record {
     lifetimes = 1;
     outlives = [];
+    ty_params = [];
+    givens = 0;
     params = 1;
-    locals = local (layout (shape P.B)) value_local ∷ local (slice_ty (ty_ref (named 0) imm (ty_named (P.T.name, P.T.args)))) value_local ∷ local (layout (shape P.L)) value_local ∷ [];
+    locals = local (layout (shape P.B)) value_local ∷ local (slice_ty (ty_ref (named 0) imm (ty_named (P.T.name, P.T.args) (writtens P.T.types)))) value_local ∷ local (layout (shape P.L)) value_local ∷ [];
     body = seq (call P.h (copy (place 1 []) ∷ []) (place 2 [])) (seq (call P.g (copy (place 2 []) ∷ []) (place 0 [])) return);
   }
 
@@ -91,7 +93,7 @@ module _ (P : Parts) where
   ended = record { signature = record { lifetimes = 1; outlives = []; params = SliceRefOf (0 ∷ []) tt (plain (λ _. R)) (λ _. tt) ∷ []; result = plain (λ _. BR) }; kept = (yes, tt) }
 
   abbrev stayed : Stays ended.signature.params ended.kept
-  stayed = (stay_none_slice (0 ∷ []) tt (plain (λ _. R)) yes, tt)
+  stayed = (stay_dropped (SliceRefOf (0 ∷ []) tt (plain (λ _. R)) (λ _. tt)) yes, tt)
 
   module _ {M : Type 1} {𝓤 : Ura M} (𝓛 : Logic 𝓤) where
     -- the contracts of the three
@@ -143,43 +145,42 @@ module _ (P : Parts) where
         abbrev Post : Val → SProp 𝓤
         Post = (walk_of 𝓛 ended stayed clauses).post (((κ, tt), (q, tt), tt, (x, tt), at), tt)
 
-        exits : (r : P.B.D) (v : Val) → r ≡ P.whole x.now → Is BR r (v ∷ []) → ent 𝓤 (⋆ 𝓛 (‵ (flft κ q) ∷ ‵ ((ShrSlice (named 0) κ R).own_val x (sv x ∷ [])) ∷ [])) (Post v)
+        exits : (r : P.B.D) (v : Val) → r ≡ P.whole x.now → Is BR r (v ∷ []) → ent 𝓤 (⋆ 𝓛 (‵ (flft κ q) ∷ [])) (Post v)
         exits r v e p =
-            qed 𝓛 (‵ (flft κ q) ∷ ‵ ((ShrSlice (named 0) κ R).own_val x (sv x ∷ [])) ∷ []) ∵
+            qed 𝓛 (‵ (flft κ q) ∷ []) ∵
             suffices ! _ (ends_at 𝓛 ended stayed clauses (((κ, tt), (q, tt), tt, (x, tt), at), tt) v r (tt, tt) (tt, tt)) $ says ! e $
-            nothing ! $ move ! (1 ∷ 0 ∷ []) $ join ! $ frame ! $ nothing ! $ move ! (1 ∷ 0 ∷ []) $ fjoin ! $ frame ! $ owned ! BR (Is BR) (LL.makes P.B P.B_plain 𝓛) r _ p $ done !
+            nothing ! $ move ! (1 ∷ 0 ∷ []) $ join ! $ frame ! $ nothing ! $ nothing ! $ fjoin ! $ frame ! $ owned ! BR (Is BR) (LL.makes P.B P.B_plain 𝓛) r _ p $ done !
 
         walk : (𝓣 : Tables 𝓤 H) → Triple 𝓤 (𝓣.C P.h) Reads → Triple 𝓤 (𝓣.C P.g) Turns → Room R (length x.now)
             → ent 𝓤 (on_entry 𝓛 ended.signature (κ, tt) (q, tt) (x, tt) at) (WpFn 𝓤 H 𝓣.C 𝓣.Λ code (sv x ∷ []) Post)
         walk 𝓣 known-h known-g gn =
             qed 𝓛 ((‵ (flft κ q) ⊛ ‵ ftrue) ∷ ‵ (owns (ShrSlice (named 0) κ R ∷ []) (x, tt) at) ∷ []) ∵ enter ! 𝓣.C 𝓣.Λ code (sv x ∷ []) _ $
             alloc1 ! (λ l₀. alloc1 ! (λ l₁. alloc1 ! (λ l₂. alloc0 ! $ params1 ! $ pass1 ! (init ! 2 refl (tt, (tt, (record { fits = gn.0 }, tt)))) $ pass0 ! $
-            move ! (7 ∷ []) $ fsplit ! $ use1 𝓛 (‵ ((ShrSlice (named 0) κ R).own_val x (sv x ∷ [])) ⊛ ‵ ((ShrSlice (named 0) κ R).own_val x (sv x ∷ []))) ((shr_slice_copy 𝓛 (named 0) κ R).twice x (sv x ∷ [])) $ split ! $
-            move ! (9 ∷ []) $ split ! $ move ! (0 ∷ 2 ∷ []) $ use2 𝓛 (raw (Reads.pre (to_h κ q x))) (goes_h κ q x) $
-            -- [what h asks; true; the other copy; true; _2 at 4; …; _1 at 6; …; _0 at 8; …]
-            calls_at ! (fm_of 𝓤 H 𝓛.laws 𝓣) Reads known-h (to_h κ q x) (and_then ! (load ! (from ! (stop !)) (look ! 6 refl)) (no_more !)) (λ u.
+            move ! (7 ∷ []) $ fsplit ! $ move ! (8 ∷ []) $ split ! $ move ! (0 ∷ 2 ∷ []) $ use2 𝓛 (raw (Reads.pre (to_h κ q x))) (goes_h κ q x) $
+            -- [what h asks; true; true; _2 at 3; …; _1 at 5; …; _0 at 7; …]
+            calls_at ! (fm_of 𝓤 H 𝓛.laws 𝓣) Reads known-h (to_h κ q x) (and_then ! (load ! (from ! (stop !)) (look ! 5 refl)) (no_more !)) (λ u.
             use1 𝓛 (later (some (λ (r : P.L.D). ((‵ (flft κ q) ⊛ ‵ ftrue) ⊛ ‵ (LR.own_val r (u ∷ []))) ⊛ raw (ensured 𝓛 h_ended h_clauses (κ, tt) (x, tt) tt r)))) (id⊢ 𝓤 _) $ await ! tt $ pick ! (λ t.
             split ! $ move ! (1 ∷ []) $ use1 𝓛 (raw (fact 𝓤 (t ≡ P.first x.now))) (h_said κ x t) $ heard ! (t ≡ P.first x.now) (λ e. split ! $ split ! $ move ! (2 ∷ []) $
             facts ! LR (Is LR) (shows 𝓛 LR) t (u ∷ []) (λ is.
-            -- [the token; true; true; the other copy; true; _2 at 5; …; _1 at 7; …; _0 at 9; …]
-            land ! (from ! (stop !)) (init ! 5 refl ((LL.lawful P.L P.L_laws 𝓛).typed t _ is).0) $
+            -- [the token; true; true; true; _2 at 4; …; _1 at 6; …; _0 at 8; …]
+            land ! (from ! (stop !)) (init ! 4 refl ((LL.lawful P.L P.L_laws 𝓛).typed t _ is).0) $
             use0 𝓛 (raw (Turns.pre (to_g t u))) (goes_g t u is) $
-            calls_at ! (fm_of 𝓤 H 𝓛.laws 𝓣) Turns known-g (to_g t u) (and_then ! (load ! (from ! (stop !)) (look ! 6 refl)) (no_more !)) (λ v.
+            calls_at ! (fm_of 𝓤 H 𝓛.laws 𝓣) Turns known-g (to_g t u) (and_then ! (load ! (from ! (stop !)) (look ! 5 refl)) (no_more !)) (λ v.
             use1 𝓛 (later (some (λ (r : P.B.D). (‵ ftrue ⊛ ‵ (BR.own_val r (v ∷ []))) ⊛ raw (ensured 𝓛 g_ended g_clauses tt (t, tt) tt r)))) (id⊢ 𝓤 _) $ await ! tt $ pick ! (λ r.
             split ! $ move ! (1 ∷ []) $ use1 𝓛 (raw (fact 𝓤 (r ≡ P.second t))) (g_said t r) $ heard ! (r ≡ P.second t) (λ e'. split ! $ drop ! $
             facts ! BR (Is BR) (shows 𝓛 BR) r (v ∷ []) (λ is'.
-            land ! (from ! (stop !)) (init ! 9 refl ((LL.lawful P.B P.B_laws 𝓛).typed r _ is').0) $
-            returns ! (look ! 9 refl) $ forget ! 5 refl $ forget ! 7 refl $ forget ! 9 refl $
-            move ! (9 ∷ 10 ∷ []) $ free1 ! $ move ! (7 ∷ 8 ∷ []) $ free1 ! $ move ! (5 ∷ 6 ∷ []) $ free1 ! $ free0 ! $ keep ! (0 ∷ 3 ∷ []) $ by ! (exits r v (e' ∙ ap P.second e ∙ P.both x.now) is'))))))))))))
+            land ! (from ! (stop !)) (init ! 8 refl ((LL.lawful P.B P.B_laws 𝓛).typed r _ is').0) $
+            returns ! (look ! 8 refl) $ forget ! 4 refl $ forget ! 6 refl $ forget ! 8 refl $
+            move ! (8 ∷ 9 ∷ []) $ free1 ! $ move ! (6 ∷ 7 ∷ []) $ free1 ! $ move ! (4 ∷ 5 ∷ []) $ free1 ! $ free0 ! $ keep ! (0 ∷ []) $ by ! (exits r v (e' ∙ ap P.second e ∙ P.both x.now) is'))))))))))))
 
       meets : (𝓣 : Tables 𝓤 H) → Triple 𝓤 (𝓣.C P.h) Reads → Triple 𝓤 (𝓣.C P.g) Turns → Triple 𝓤 (WpFn 𝓤 H 𝓣.C 𝓣.Λ code) Whole
       meets 𝓣 known-h known-g =
-          walk_Meets 𝓛 ended stayed (Goes-none_slice 𝓛 1 (0 ∷ []) tt (plain (λ _. R)) yes, tt) clauses (WpFn 𝓤 H 𝓣.C 𝓣.Λ code) (WpFn-mono 𝓤 H 𝓛.laws 𝓣 code)
+          walk_Meets 𝓛 ended stayed (Goes-dropped 𝓛 1 (SliceRefOf (0 ∷ []) tt (plain (λ _. R)) (λ _. tt)) yes (λ κs x f. refl), tt) clauses (WpFn 𝓤 H 𝓣.C 𝓣.Λ code) (WpFn-mono 𝓤 H 𝓛.laws 𝓣 code)
           (walked 𝓛 ended stayed clauses (WpFn 𝓤 H 𝓣.C 𝓣.Λ code) (λ κs. (shr_slice_vals, tt)) (λ κs. (shr_slice_Tells (named 0) κs.0 R, tt))
           (λ κs qs bounds a g are. via 𝓤 _ (fst∗ 𝓤 _ (emp 𝓤)) (walk κs.0 qs.0 a.0 𝓣 known-h known-g are.0.0.1)))
 
   -- the function's entry in a table meets its contract, where the routines of h and g do
-  pub from_slice : {M : Type 1} {𝓤 : Ura M} (𝓛 : Logic 𝓤) (𝓜 : Model 𝓤 𝓛.H) (𝓡 : Running 𝓤 𝓛.H 𝓜) (γ : Env) (k : Name) → Closed 𝓤 𝓛.H (tables 𝓤 𝓛.H 𝓜 𝓡 γ).C (tables 𝓤 𝓛.H 𝓜 𝓡 γ).Λ k code
+  pub from_slice : {M : Type 1} {𝓤 : Ura M} (𝓛 : Logic 𝓤) (𝓜 : Model 𝓤 𝓛.H) (𝓡 : Running 𝓤 𝓛.H 𝓜) (γ : Env) (k : Callee) → Closed 𝓤 𝓛.H (tables 𝓤 𝓛.H 𝓜 𝓡 γ).C (tables 𝓤 𝓛.H 𝓜 𝓡 γ).Λ k code
       → (r : Routine) → γ P.h ≡ r → Triple 𝓤 (𝓡.run r) (Reads 𝓛) → (s : Routine) → γ P.g ≡ s → Triple 𝓤 (𝓡.run s) (Turns 𝓛) → Triple 𝓤 ((tables 𝓤 𝓛.H 𝓜 𝓡 γ).C k) (Whole 𝓛)
   unfolding tables_of
   from_slice {𝓤 = 𝓤} 𝓛 𝓜 𝓡 γ k closed r at-h known-h s at_g known-g =

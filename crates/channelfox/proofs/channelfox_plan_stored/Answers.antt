@@ -1,5 +1,4 @@
 -- `channelfox::channelfox_plan_stored` meets its contract. Assumes nothing.
-use borrow.Author.Rules.{rules}
 use mathlib.Core.Path.{◌∙◌}
 use Rattle.channelfox.proofs.channelfox_plan_stored.Goals as goal
 

@@ -1,7 +1,6 @@
 -- `channelfox_write` meets its contract. Assumes nothing.
 use mathlib.Core.Path.{ap, ◌∙◌}
 use Rattle.channelfox.specs.Forms.{written_form}
-use borrow.Author.Rules.{rules}
 use Rattle.channelfox.proofs.channelfox_write.Goals as goal
 
 pub returns : goal.returns

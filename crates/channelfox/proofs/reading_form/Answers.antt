@@ -1,6 +1,5 @@
 -- `channelfox::reading_form` meets its contract: each case of a reading. Assumes nothing.
 use mathlib.Core.Path.{◌∙◌}
-use borrow.Author.Rules.{rules}
 use Rattle.channelfox.proofs.reading_form.Goals as goal
 
 pub returns-in-Never : goal.returns-in-Never

@@ -1,7 +1,6 @@
 -- `tables::copy_rows` meets its contract: after i turns the first i rows stand in the table. Assumes nothing.
 use Rattle.std.proofs.Common.{◌≡◌, refl, sym, ◌∙◌, ap, inl, inr, ℕ, zero, suc, ◌+◌, ◌<◌, ◌≤◌, add-one, arith, List, [], ◌∷◌, length, get_or, take, set, replicate}
 use native.Mathlib.Nat.{not-suc-le-zero, le_of_suc-le-suc, eq-or-lt_of_le}
-use borrow.Author.Rules.{rules}
 use Rattle.rules.specs.declared.ObjectRow.{ObjectRow}
 use Rattle.rules.specs.declared.Table.{Table}
 use Rattle.rules.specs.StoredTable.{no_row}

@@ -1,5 +1,5 @@
 -- `timing::slots_in_place` meets its contract: what is left of the slots brings the run to where all of them bring the first. Assumes nothing.
-use Rattle.std.proofs.Common.{◌≡◌, refl, sym, ◌∙◌, ap, ℕ, zero, suc, ◌+◌, ◌<◌, add-one, arith, rules, List, [], ◌∷◌, length, get_or, drop}
+use Rattle.std.proofs.Common.{◌≡◌, refl, sym, ◌∙◌, ap, ℕ, zero, suc, ◌+◌, ◌<◌, add-one, arith, List, [], ◌∷◌, length, get_or, drop}
 use native.Mathlib.Nat.{not-suc-le-zero, le_of_suc-le-suc}
 use Rattle.rules.specs.declared.Run.{Run}
 use Rattle.rules.specs.Run.{is_stolen, stepped_of}

@@ -1,6 +1,4 @@
 -- `channelfox::forms::all_forms` meets its contract. Assumes nothing.
-use borrow.Author.Rules.{rules}
-use Prim.Native.Nat.{◌-◌}
 use Rattle.channelfox.proofs.Mapped.{tested_none, tested_next, tested_all}
 use Rattle.channelfox.proofs.forms.all_forms.Goals as goal
 

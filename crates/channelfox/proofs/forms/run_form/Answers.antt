@@ -1,8 +1,5 @@
 -- `channelfox::forms::run_form` meets its contract. Assumes nothing.
-use borrow.Author.Rules.{rules}
-use Prim.Native.Nat.{◌-◌}
 use mathlib.Core.Path.{refl}
-use Rattle.channelfox.specs.Forms.{row_form}
 use Rattle.channelfox.proofs.Mapped.{done_none, done_next, done_all}
 use Rattle.channelfox.proofs.forms.run_form.Goals as goal
 

@@ -1,5 +1,4 @@
 -- `channelfox::forms::verdict_form` meets its contract. Assumes nothing.
-use borrow.Author.Rules.{rules}
 use Rattle.channelfox.proofs.forms.verdict_form.Goals as goal
 
 pub returns-in-Accepted : goal.returns-in-Accepted

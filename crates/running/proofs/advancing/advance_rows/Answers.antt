@@ -1,6 +1,6 @@
 -- `running::advancing::advance_rows` meets its contract: between slots `Going` holds, within a slot `Releasing`, `Serving` and `Aging`.
 -- Assumes nothing.
-use Rattle.std.proofs.Common.{◌-◌, refl, ◌∙◌, ⊎_elim, arith, rules, eq-eqb, ne_eqb, lt-ltb, le-ltb}
+use Rattle.std.proofs.Common.{refl, ◌∙◌, arith, rules, eq-eqb, ne_eqb, lt-ltb, le-ltb}
 use Rattle.rules.specs.Run.{no_run_row}
 use Rattle.running.proofs.Front.{front_start}
 use Rattle.running.proofs.Going.{going_none, going_on, slots_end, releasing_none, releasing_same, releasing_stored, serving_none, serving_in, serving_idle, serving_less, serving_used, serving_last, aging_none, aging_same, aging_stored}

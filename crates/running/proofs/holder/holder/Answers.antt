@@ -1,5 +1,5 @@
 -- `running::holder::holder` meets its contract: no row before `i` is in its hold. Assumes nothing.
-use Rattle.std.proofs.Common.{◌-◌, sym, ◌∙◌, rules}
+use Rattle.std.proofs.Common.{sym, ◌∙◌}
 use Rattle.running.proofs.HeldRow.{searched_none, searched_next, held_here, held_nowhere}
 use Rattle.running.proofs.holder.holder.Goals as goal
 

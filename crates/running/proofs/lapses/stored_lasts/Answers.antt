@@ -1,6 +1,6 @@
 -- `running::lapses::stored_lasts` meets its contract. Assumes nothing.
 use borrow.Author.Tests.{lt-leb}
-use Rattle.std.proofs.Common.{refl, rules}
+use Rattle.std.proofs.Common.{refl}
 use Rattle.running.proofs.lapses.stored_lasts.Goals as goal
 
 pub returns-in-Empty : goal.returns-in-Empty

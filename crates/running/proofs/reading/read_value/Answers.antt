@@ -1,5 +1,5 @@
 -- `running::reading::read_value` meets its contract: no row before `i` has the id. Assumes nothing.
-use Rattle.std.proofs.Common.{◌-◌, ◌∙◌, arith, rules}
+use Rattle.std.proofs.Common.{◌∙◌, arith}
 use Rattle.stepping.proofs.Checked.{passes, fails, count_fits}
 use Rattle.running.proofs.Found.{looked_none, looked_next, found_here, found_nowhere, refused_reading}
 use Rattle.running.proofs.reading.read_value.Goals as goal

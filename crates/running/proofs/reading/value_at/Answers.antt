@@ -1,5 +1,4 @@
 -- `running::reading::value_at` meets its contract. Assumes nothing.
-use Rattle.std.proofs.Common.{rules}
 use Rattle.running.proofs.reading.value_at.Goals as goal
 
 pub returns-in-Held : goal.returns-in-Held

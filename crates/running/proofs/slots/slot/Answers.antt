@@ -1,7 +1,7 @@
 -- `running::slots::slot` meets its contract: the rows in use with their holds, the rows beyond them and the ids are checked, and one pass
 -- goes over the rows.
 -- Assumes nothing.
-use Rattle.std.proofs.Common.{◌-◌, true, sym, refl, ◌∙◌, rules}
+use Rattle.std.proofs.Common.{sym, refl, ◌∙◌}
 use Rattle.stepping.proofs.Checked.{passes, fails, miscounted, used_none, row_wrong, hold_wrong, row_held, row_free, unused_none, unused_next, unused_false, checked}
 use Rattle.rules.proofs.Holds.{one_free}
 use Rattle.stepping.proofs.OneRow.{passed_is}

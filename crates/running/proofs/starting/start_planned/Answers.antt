@@ -1,6 +1,6 @@
 -- `running::starting::start_planned` meets its contract: the first releases before `i` are in order, and their rows are made.
 -- Assumes nothing.
-use Rattle.std.proofs.Common.{◌-◌, ◌∙◌, arith, rules}
+use Rattle.std.proofs.Common.{◌∙◌, arith}
 use Rattle.running.proofs.Firsts.{starts_none, starts_next, refused_plan_law, refused_count, refused_first, accepted_start}
 use Rattle.running.proofs.starting.start_planned.Goals as goal
 

@@ -1,6 +1,6 @@
 -- `running::starting::start_stored` meets its contract. Assumes nothing.
-use Rattle.std.proofs.Common.{◌-◌, refl, ◌∙◌, arith, rules}
-use Rattle.running.proofs.FromStored.{read_refused, few, started}
+use Rattle.std.proofs.Common.{◌-◌, refl, ◌∙◌, arith}
+use Rattle.running.proofs.FromStored.{read_refused, started}
 use Rattle.running.proofs.starting.start_stored.Goals as goal
 
 pub returns-in-Refused : goal.returns-in-Refused

@@ -1,5 +1,4 @@
 -- `sheets::reading::go_on` meets its contract: each turn takes one digit more. Assumes nothing.
-use Prim.Native.Nat.{◌-◌}
 use mathlib.Core.Path.{refl}
 use native.Mathlib.Omega.{arith}
 use Rattle.rules.proofs.Digits.{digit_below, digit_above}

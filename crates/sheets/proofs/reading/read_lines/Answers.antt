@@ -1,7 +1,6 @@
 -- `sheets::reading::read_lines` meets its contract: after each turn the lines before `at` are read. Assumes nothing.
-use Prim.Native.Nat.{◌-◌, ◌<◌}
+use Prim.Native.Nat.{◌<◌}
 use native.Mathlib.Omega.{arith}
-use mathlib.Core.Logic.{inl, inr}
 use mathlib.Core.Path.{◌∙◌}
 use lib.ListN.{length}
 use Rattle.sheets.proofs.Walked.{walked_none, all_read, bad_line_law, walked_kept, walked_full}

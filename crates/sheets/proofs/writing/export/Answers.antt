@@ -6,7 +6,6 @@ use Rattle.rules.specs.StoredTable.{rows_in, table_verdict}
 use Rattle.rules.specs.Sheet.{sheet_bytes}
 use Rattle.rules.proofs.Checks.{few_rows}
 use Rattle.rules.proofs.Put.{rows_refused, room_refused, all_put}
-use borrow.Author.Rules.{rules}
 use Rattle.sheets.proofs.writing.export.Goals as goal
 
 pub returns-in_default : goal.returns-in_default

@@ -1,9 +1,9 @@
 -- `sheets::writing::put_line` meets its contract: four fields and the last byte, one behind the other. Assumes nothing.
 use Prim.Native.Nat.{◌<◌}
-use mathlib.Core.Path.{refl, ◌∙◌}
+use mathlib.Core.Path.{refl}
 use mathlib.Core.List.{[], ◌∷◌, ◌++◌}
 use native.Mathlib.Omega.{arith}
-use lib.ListN.{length, length-set}
+use lib.ListN.{length}
 use Rattle.rules.specs.Sheet.{field_bytes}
 use Rattle.rules.proofs.Put.{put_then}
 use Rattle.sheets.proofs.Printed.{line_fields, kept}

@@ -1,5 +1,5 @@
 -- `sheets::writing::put_lines` meets its contract: after i turns the first i lines stand. Assumes nothing.
-use Prim.Native.Nat.{◌+◌, ◌-◌, ◌<◌}
+use Prim.Native.Nat.{◌+◌, ◌<◌}
 use mathlib.Core.Path.{◌≡◌, refl}
 use native.Mathlib.Omega.{arith}
 use lib.ListN.{length, take}

@@ -1,8 +1,7 @@
 -- `sheets::writing::put_number` meets its contract: each turn puts the last digit that is left. Assumes nothing.
 use Prim.Native.Nat.{◌/◌}
-use mathlib.Core.Path.{refl, ◌∙◌}
+use mathlib.Core.Path.{refl}
 use native.Mathlib.Omega.{arith}
-use lib.ListN.{length-set}
 use Rattle.rules.proofs.Digits.{decimal_longer, decimal_few}
 use Rattle.sheets.proofs.Printed.{putting_next, putting_done}
 use Rattle.sheets.proofs.writing.put_number.Goals as goal

@@ -1,5 +1,5 @@
 -- `sheets::writing::sheet_size` meets its contract: after i turns the first i lines are counted. Assumes nothing.
-use Prim.Native.Nat.{◌-◌, ◌<◌}
+use Prim.Native.Nat.{◌<◌}
 use mathlib.Core.Path.{◌≡◌, refl}
 use native.Mathlib.Omega.{arith}
 use lib.ListN.{length}

@@ -1,7 +1,5 @@
 -- `stepping::acceptance::distinct` meets its contract: the ids up to `a` differ from all behind them. Assumes nothing.
-use Rattle.std.proofs.Common.{◌-◌, sym, refl, ap, ◌∙◌, ⊎_elim, arith, rules}
-use Rattle.rules.specs.RunState.{distinct}
-use Rattle.stepping.proofs.Lists.{take_both}
+use Rattle.std.proofs.Common.{sym, ◌∙◌, arith, rules}
 use Rattle.stepping.proofs.Scan.{outer_turn, inner_turn, outer_end, inner_end}
 use Rattle.stepping.proofs.acceptance.distinct.Goals as goal
 

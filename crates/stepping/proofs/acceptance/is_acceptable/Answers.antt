@@ -1,6 +1,6 @@
 -- `stepping::acceptance::is_acceptable` meets its contract: `ok` says whether the rows passed so far are in order, `ids` has their ids,
 -- and `holding` says whether one of them is in its hold. Assumes nothing.
-use Rattle.std.proofs.Common.{◌-◌, sym, refl, rules}
+use Rattle.std.proofs.Common.{sym, refl}
 use Rattle.stepping.proofs.Checked.{miscounted, used_none, used_next, unused_none, unused_next, checked}
 use Rattle.stepping.proofs.acceptance.is_acceptable.Goals as goal
 

@@ -1,5 +1,4 @@
 -- `stepping::acceptance::stored_ok` meets its contract. Assumes nothing.
-use Rattle.std.proofs.Common.{rules}
 use Rattle.stepping.proofs.acceptance.stored_ok.Goals as goal
 
 pub returns-in-Held : goal.returns-in-Held

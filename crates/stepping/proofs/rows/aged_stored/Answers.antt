@@ -1,5 +1,5 @@
 -- `stepping::rows::aged_stored` meets its contract. Assumes nothing.
-use Rattle.std.proofs.Common.{rules, le-leb}
+use Rattle.std.proofs.Common.{le-leb}
 use borrow.Author.Tests.{lt-leb}
 use Rattle.stepping.proofs.rows.aged_stored.Goals as goal
 

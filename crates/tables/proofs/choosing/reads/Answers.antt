@@ -1,7 +1,6 @@
 -- `tables::choosing::reads` meets its contract. Assumes nothing.
 use mathlib.Core.Path.{◌∙◌}
 use Rattle.tables.proofs.Filling.{read_verdict_law}
-use borrow.Author.Rules.{rules}
 use Rattle.tables.proofs.choosing.reads.Goals as goal
 
 pub returns-in-Accepted : goal.returns-in-Accepted

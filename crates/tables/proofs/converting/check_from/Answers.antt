@@ -3,7 +3,6 @@ use mathlib.Core.Path.{sym, ◌∙◌}
 use native.Mathlib.Omega.{arith}
 use borrow.Author.Tests.{not-true, not-false}
 use Rattle.rules.proofs.Trailer.{size_said}
-use borrow.Author.Rules.{rules}
 use Rattle.tables.proofs.converting.check_from.Goals as goal
 
 pub returns-in_default : goal.returns-in_default

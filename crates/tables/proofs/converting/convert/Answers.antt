@@ -6,7 +6,6 @@ use Rattle.rules.specs.Converting.{converted_from}
 use Rattle.rules.proofs.Put.{put_refused}
 use Rattle.tables.proofs.Converted.{from_refused, read_refused, converted}
 use Rattle.tables.proofs.Filling.{read_verdict_law, read_stored}
-use borrow.Author.Rules.{rules}
 use Rattle.tables.proofs.converting.convert.Goals as goal
 
 pub returns-in_default : goal.returns-in_default

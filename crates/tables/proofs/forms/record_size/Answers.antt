@@ -1,5 +1,4 @@
 -- `tables::forms::record_size` meets its contract. Assumes nothing.
-use borrow.Author.Rules.{rules}
 use Rattle.tables.proofs.forms.record_size.Goals as goal
 
 pub returns-in-NoForm : goal.returns-in-NoForm

@@ -2,7 +2,6 @@
 use native.Mathlib.Omega.{arith}
 use native.Mathlib.Numerals.{add-one}
 use lib.ListN.{length-set}
-use borrow.Author.Rules.{rules}
 use Rattle.tables.proofs.numbers.put16.Goals as goal
 
 pub bounds-buffer-at-2 : goal.bounds-buffer-at-2

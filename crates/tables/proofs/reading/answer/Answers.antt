@@ -1,5 +1,4 @@
 -- `tables::reading::answer` meets its contract. Assumes nothing.
-use borrow.Author.Rules.{rules}
 use Rattle.tables.proofs.reading.answer.Goals as goal
 
 pub returns-in_default : goal.returns-in_default

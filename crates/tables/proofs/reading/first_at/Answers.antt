@@ -3,7 +3,6 @@ use Prim.Native.Nat.{◌+◌, ◌≤◌}
 use native.Mathlib.Omega.{arith}
 use lib.ListN.{length}
 use Rattle.rules.specs.StoredTable.{record_size}
-use borrow.Author.Rules.{rules}
 use Rattle.tables.proofs.reading.first_at.Goals as goal
 
 pub read32-requires : goal.read32-requires

@@ -1,5 +1,4 @@
 -- `tables::reading::firsts_from` meets its contract: after n turns the first n first releases are in. Assumes nothing.
-use Prim.Native.Nat.{◌-◌}
 use mathlib.Core.Path.{◌≡◌, refl}
 use native.Mathlib.Omega.{arith}
 use Rattle.rules.specs.StoredTable.{first_at}

@@ -5,7 +5,6 @@ use native.Mathlib.Omega.{arith}
 use Rattle.rules.specs.StoredTable.{record_size, form_of, count_of}
 use Rattle.rules.proofs.Trailer.{readable}
 use Rattle.tables.proofs.Filling.{read_is}
-use borrow.Author.Rules.{rules}
 use Rattle.tables.proofs.reading.read.Goals as goal
 
 pub returns-in_default : goal.returns-in_default

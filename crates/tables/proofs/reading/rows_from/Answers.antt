@@ -1,5 +1,4 @@
 -- `tables::reading::rows_from` meets its contract: after n turns the first n records are in. Assumes nothing.
-use Prim.Native.Nat.{◌-◌}
 use mathlib.Core.Path.{◌≡◌}
 use native.Mathlib.Omega.{arith}
 use Rattle.rules.specs.StoredTable.{no_row, row_of}

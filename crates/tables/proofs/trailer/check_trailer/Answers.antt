@@ -3,7 +3,6 @@ use mathlib.Core.Path.{sym, ◌∙◌}
 use native.Mathlib.Omega.{arith}
 use borrow.Author.Tests.{not-true, not-false}
 use Rattle.rules.proofs.Trailer.{size_said, wrong_mark, no_record, too_many, too_near, too_far, in_order_law}
-use borrow.Author.Rules.{rules}
 use Rattle.tables.proofs.trailer.check_trailer.Goals as goal
 
 pub returns-in_default : goal.returns-in_default

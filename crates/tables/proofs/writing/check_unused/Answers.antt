@@ -1,5 +1,4 @@
 -- `tables::writing::check_unused` meets its contract. Assumes nothing.
-use borrow.Author.Rules.{rules}
 use Rattle.tables.proofs.writing.check_unused.Goals as goal
 
 pub returns-in-One : goal.returns-in-One

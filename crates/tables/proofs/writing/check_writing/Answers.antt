@@ -3,7 +3,6 @@ use mathlib.Core.Path.{sym, ◌∙◌}
 use borrow.Author.Tests.{not-true, not-false, lt-leb, le-leb}
 use Rattle.rules.specs.StoredTable.{table_size}
 use Rattle.rules.proofs.Checks.{few_rows}
-use borrow.Author.Rules.{rules}
 use Rattle.tables.proofs.writing.check_writing.Goals as goal
 
 pub returns-then-not-is_form : goal.returns-then-not-is_form

@@ -1,5 +1,4 @@
 -- `tables::writing::check_zeros` meets its contract: the walk stands at `at` with the first releases before it 0. Assumes nothing.
-use Prim.Native.Nat.{◌-◌}
 use mathlib.Core.Path.{sym}
 use Rattle.tables.proofs.Wrote.{unused_none, unused_next, one_used, all_unused}
 use borrow.Author.Rules.{rules}

@@ -3,7 +3,6 @@ use Prim.Native.Nat.{◌+◌, ◌≤◌}
 use native.Mathlib.Omega.{arith}
 use lib.ListN.{length}
 use Rattle.rules.specs.StoredTable.{first_size}
-use borrow.Author.Rules.{rules}
 use Rattle.tables.proofs.writing.put_first.Goals as goal
 
 pub put32-requires : goal.put32-requires

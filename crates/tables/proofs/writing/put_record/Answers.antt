@@ -3,7 +3,6 @@ use Prim.Native.Nat.{◌+◌}
 use native.Mathlib.Omega.{arith}
 use Rattle.rules.specs.Writing.{row_bytes, first_bytes}
 use Rattle.rules.proofs.Put.{put_then}
-use borrow.Author.Rules.{rules}
 use Rattle.tables.proofs.writing.put_record.Goals as goal
 
 pub returns : goal.returns

@@ -4,7 +4,6 @@ use mathlib.Core.List.{◌++◌}
 use native.Mathlib.Omega.{arith}
 use Rattle.rules.specs.Writing.{bytes16, bytes32}
 use Rattle.rules.proofs.Put.{put_then}
-use borrow.Author.Rules.{rules}
 use Rattle.tables.proofs.writing.put_row.Goals as goal
 
 pub returns : goal.returns

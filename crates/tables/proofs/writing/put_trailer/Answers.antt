@@ -5,7 +5,6 @@ use native.Mathlib.Omega.{arith}
 use Rattle.rules.specs.StoredTable.{form_mark, table_size}
 use Rattle.rules.specs.Writing.{bytes16, bytes32}
 use Rattle.rules.proofs.Put.{put_then}
-use borrow.Author.Rules.{rules}
 use Rattle.tables.proofs.writing.put_trailer.Goals as goal
 
 pub returns : goal.returns

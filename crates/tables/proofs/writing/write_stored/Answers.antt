@@ -8,7 +8,6 @@ use Rattle.rules.specs.Writing.{records_bytes, bytes_of}
 use Rattle.rules.proofs.Checks.{both_accept, few_rows}
 use Rattle.rules.proofs.Put.{put_refused, put_whole}
 use Rattle.tables.proofs.Wrote.{writable, table_size_law, records_trailer}
-use borrow.Author.Rules.{rules}
 use Rattle.tables.proofs.writing.write_stored.Goals as goal
 
 pub returns-in_default : goal.returns-in_default

@@ -39,11 +39,15 @@ AllNoWorse (m ∷ ms) (h ∷ hs) = NoWorse m h × AllNoWorse ms hs
 
 more : (ms hs : List PlanRow) (m h : PlanRow) → AllNoWorse ms hs → NoWorse m h → AllNoWorse (ms ++ (m ∷ [])) (hs ++ (h ∷ []))
 more [] [] m h a n = (n, tt)
+more [] (y ∷ hs) m h a n = elim a [ ]
+more (x ∷ ms) [] m h a n = elim a [ ]
 more (x ∷ ms) (y ∷ hs) m h a n = (a.0, more ms hs m h a.1 n)
 
 -- the work that they bring is no more
 brings_less : (ms hs : List PlanRow) (t : ℕ) → AllNoWorse ms hs → window_of ms t ≤ window_of hs t
 brings_less [] [] t a = omega arith
+brings_less [] (h ∷ hs) t a = elim a [ ]
+brings_less (m ∷ ms) [] t a = elim a [ ]
 brings_less (m ∷ ms) (h ∷ hs) t a =
     let n = a.0 in
     let b : ceiling t m.period * m.cost ≤ ceiling t h.period * m.cost = mul-le-mul_right m.cost (ceiling_down t m.period h.period n.some_period n.longer) in

@@ -67,15 +67,15 @@ module _ {ps : List PlanRow} {beyond : List RunRow} {from : ℕ} {ws : List Stat
     place : i < length ws
     place = rw (states_length k) s.inside
 
-    plan_at : plan_at course i ≡ object_of o.plan
-    plan_at = planned_at k i s.inside ∙ ap object_of s.plan_is
+    plan_at_law : plan_at course i ≡ object_of o.plan
+    plan_at_law = planned_at k i s.inside ∙ ap object_of s.plan_is
 
     row_of : (t : ℕ) → run_row (run t) i ≡ encode (from + t) o.plan (state course i t)
     row_of t = row_at k stolen t i s.inside ∙ ap (λ p. encode (from + t) p (state course i t)) s.plan_is
 
     pub release_same : (r : ℕ) → ReleaseOf (at ws i) (from + r) ↔ IsRelease o r
     release_same r =
-        let period_is : (at ws i).planned.period ≡ o.plan.period = ap (λ (x : Object). x.period) plan_at in
+        let period_is : (at ws i).planned.period ≡ o.plan.period = ap (λ (x : Object). x.period) plan_at_law in
         rw (s.next_is, period_is) (λ p. (p.0, omega arith), λ p. (p.0, omega arith))
 
     -- a release is due in 32 bits exactly at the instants first + k * period
@@ -104,9 +104,9 @@ module _ {ps : List PlanRow} {beyond : List RunRow} {from : ℕ} {ws : List Stat
       pub promised : Promised run i o b e
       unfolding encode
       promised =
-          let deadline_is : (plan_at course i).deadline ≡ o.plan.deadline = ap (λ (x : Object). x.deadline) plan_at in
-          let period_is : (plan_at course i).period ≡ o.plan.period = ap (λ (x : Object). x.period) plan_at in
-          let validity_is : (plan_at course i).validity ≡ o.plan.validity = ap (λ (x : Object). x.validity) plan_at in
+          let deadline_is : (plan_at course i).deadline ≡ o.plan.deadline = ap (λ (x : Object). x.deadline) plan_at_law in
+          let period_is : (plan_at course i).period ≡ o.plan.period = ap (λ (x : Object). x.period) plan_at_law in
+          let validity_is : (plan_at course i).validity ≡ o.plan.validity = ap (λ (x : Object). x.validity) plan_at_law in
           let sound : Sound o.plan = rw s.plan_is at (k.sound i s.inside) in
           record {
             begins = λ r x l u.

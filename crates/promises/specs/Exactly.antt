@@ -125,6 +125,7 @@ others {ahead} {r} {rs} {t} {k} d f = step f.plans f.others_have f.it_has_none
   where
     step : (plans : List PlanRow) → PlannedAs (suc k) ahead (r ∷ rs) plans → HasNone (ahead ++ plans) (get_or rs k no_row) (drop (suc k) rs)
         → FirstWithout (ahead ++ (plan_row r t ∷ [])) rs k
+    step [] p n = elim p [ ]
     step (q ∷ qs) (next s e p) n = record {
       plans = qs;
       others_have = moved ahead r (one_deadline e d) p;
@@ -138,6 +139,7 @@ at_once {ahead} {r} {rs} f = step f.plans f.others_have f.it_has_none
   where
     step : (plans : List PlanRow) → PlannedAs 0 ahead (r ∷ rs) plans → HasNone (ahead ++ plans) r rs → HasNone ahead r rs
     step [] done n = rw append-nil at n
+    step (q ∷ qs) p n = elim p [ ]
 
 -- the first object has one
 has_one : {ahead : List PlanRow} {r : ObjectRow} {rs : List ObjectRow} {k : ℕ} → FirstWithout ahead (r ∷ rs) (suc k)
@@ -145,6 +147,7 @@ has_one : {ahead : List PlanRow} {r : ObjectRow} {rs : List ObjectRow} {k : ℕ}
 has_one {ahead} {r} {rs} {k} f = step f.plans f.others_have
   where
     step : (plans : List PlanRow) → PlannedAs (suc k) ahead (r ∷ rs) plans → (t : ℕ) × IsDeadline ahead r rs t
+    step [] p = elim p [ ]
     step (q ∷ qs) (next s e p) = (s, e)
 
 -- the rows are not planned and refused
@@ -160,7 +163,9 @@ one_place {rs = []} j k f g = absurd (omega (arith, f.inside))
 one_place {rs = r ∷ rs} zero zero f g = refl
 one_place {rs = r ∷ rs} zero (suc k) f g = absurd (not_both (has_one g).1 (at_once f))
 one_place {rs = r ∷ rs} (suc j) zero f g = absurd (not_both (has_one f).1 (at_once g))
-one_place {rs = r ∷ rs} (suc j) (suc k) f g = let d = (has_one f).1 in ap suc (one_place j k (others d f) (others d g))
+one_place {ahead = ahead} {rs = r ∷ rs} (suc j) (suc k) f g =
+    let d = has_one f in
+    ap suc (one_place {ahead = ahead ++ (plan_row r d.0 ∷ [])} j k (others d.1 f) (others d.1 g))
 
 -- nor planned in two ways
 pub one_plan : {k : ℕ} {ahead : List PlanRow} {rs : List ObjectRow} {ps qs : List PlanRow}

@@ -1,4 +1,4 @@
--- The promises of demands 2 and 3, each in full, on one page; `kept : Promises` in Kept.antt proves them. Demand 1 is in the contracts.
+-- The promises of demands 2 and 3, each in full, on one page; `kept : Promises` in proofs/Kept.antt proves them. Demand 1 is in the contracts.
 -- Assumes nothing but what each statement says. Promises/Words.antt tells where each word is defined: those of document 01 in crate
 -- `rules`, the history, its run in true time, in crate `theory`; `run_after run stolen t` is the run of the rules after t slots.
 pub mod Words

@@ -7,7 +7,7 @@ use Rattle.rules.specs.declared.RunRow.{RunRow}
 use Rattle.rules.specs.declared.Run.{Run}
 use Rattle.rules.specs.RunState.{in_hold, any, used_rows}
 use Rattle.rules.specs.Run.{tick, released_of, step_one, served_of, serve_first, may_work, step_two, aged_of, slot_rows, slot_of}
-use Rattle.theory.specs.Cases.{cond_holds}
+use Rattle.theory.proofs.Cases.{cond_holds}
 
 first_length : (p : RunRow → Bool) (rows : List RunRow) → length (serve_first p rows) ≡ length rows
 unfolding serve_first

@@ -15,9 +15,9 @@ use Rattle.rules.proofs.Tests.{and_left, and_right}
 use Rattle.theory.specs.Model.{State, at}
 use Rattle.promises.specs.Runs.{Fits, run_row, true_age}
 use Rattle.promises.specs.Encode.{stored_of, encode, encode_run}
-use Rattle.promises.specs.Clock.{age_true}
-use Rattle.promises.specs.Tie.{Encodable, states_length, encoded_acceptable, encoded_fits, encoded_row}
-use Rattle.promises.specs.Decode.{run_says, used_length}
+use Rattle.promises.proofs.Clock.{age_true}
+use Rattle.promises.proofs.Tied.{Encodable, states_length, encoded_acceptable, encoded_fits, encoded_row}
+use Rattle.promises.proofs.Decode.{run_says, used_length}
 
 -- ── By id ──
 

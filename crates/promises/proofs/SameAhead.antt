@@ -13,18 +13,20 @@ use Rattle.rules.specs.Deadlines.{no_plan_row, plan_of}
 use Rattle.rules.specs.Run.{start_of, reading_of}
 use Rattle.theory.specs.Model.{State, state}
 use Rattle.theory.specs.Prefix
+use Rattle.theory.proofs.Prefix.{same_ahead}
 use Rattle.theory.specs.Start.{start, starts}
 use Rattle.promises.specs.Runs.{run_after, run_row, RunObject, objects_in}
 use Rattle.promises.specs.Encode.{object_of, course_from, encode, encode_run, start_states}
-use Rattle.promises.specs.Tie.{Encodable, encodable_after, run_history, row_at}
+use Rattle.promises.proofs.Tied.{Encodable, encodable_after, run_history, row_at}
 use Rattle.promises.specs.HoldsOfOne.{HoldsOne}
-use Rattle.promises.specs.Plans.{unplanned, as_rows_of}
-use Rattle.promises.specs.Readings.{reading_true}
-use Rattle.promises.specs.SamePlan.{planned_as, same_ahead_same_plan}
+use Rattle.promises.specs.Plans.{unplanned}
+use Rattle.promises.proofs.Plans.{as_rows_of}
+use Rattle.promises.proofs.Readings.{reading_true}
+use Rattle.promises.proofs.SamePlan.{planned_as, same_ahead_same_plan}
 use Rattle.promises.specs.PlanExactly.{ordered, plans_in}
-use Rattle.promises.specs.StartExactly.{start_planned}
+use Rattle.promises.proofs.StartExactly.{start_planned}
 use Rattle.promises.specs.Promises.{run_of}
-use Rattle.promises.specs.Starts.{started_with, object_stands}
+use Rattle.promises.proofs.Starts.{started_with, object_stands}
 
 -- ── Two runs whose first k objects begin alike ──
 
@@ -44,7 +46,7 @@ module _ {k i : ℕ} {ps ps' : List PlanRow} {beyond beyond' : List RunRow} {fro
   same_state =
       let given : Prefix.SameGiven k t (course_from from ws stolen) (course_from from ws' stolen) =
       record { from_same = refl; begin_same = begin_same; works_same = λ j u y z. refl; stolen_same = λ u y. refl } in
-      Prefix.same_ahead k (course_from from ws stolen) (course_from from ws' stolen) t given
+      same_ahead k (course_from from ws stolen) (course_from from ws' stolen) t given
       (rw x.objects_are unheld) (rw x'.objects_are unheld') i h
 
   -- the same row

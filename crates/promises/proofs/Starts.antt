@@ -23,16 +23,19 @@ use Rattle.rules.proofs.Checks.{both_accept, test_passed, refused_not}
 use Rattle.rules.proofs.Lists.{Every}
 use Rattle.theory.specs.Model.{Object, at, Course, history, state, Unstolen}
 use Rattle.theory.specs.Plain.{Whole}
-use Rattle.theory.specs.Bounds.{sampled_before}
-use Rattle.theory.specs.Releases.{ReleaseOf, Sampled, samples}
-use Rattle.theory.specs.Start.{start, starts, start_at, start_objects, start_acceptable}
-use Rattle.promises.specs.Plans.{PlannedRows, plan_rows}
+use Rattle.theory.proofs.Bounds.{sampled_before}
+use Rattle.theory.specs.Releases.{ReleaseOf, Sampled}
+use Rattle.theory.proofs.Releases.{samples}
+use Rattle.theory.specs.Start.{start, starts}
+use Rattle.theory.proofs.Start.{start_at, start_objects, start_acceptable}
+use Rattle.promises.specs.Plans.{PlannedRows}
+use Rattle.promises.proofs.Plans.{plan_rows}
 use Rattle.promises.specs.PlanExactly.{plans_in}
-use Rattle.promises.specs.Sound.{planned_sound}
+use Rattle.promises.proofs.Sound.{planned_sound}
 use Rattle.promises.specs.Runs.{run_after, Low, Fits, NothingLeft, RunObject, objects_of, objects_in, IsRelease}
 use Rattle.promises.specs.Encode.{object_of, course_from, encode, encodes, encode_run, spare, start_states, start_course}
-use Rattle.promises.specs.Tie.{Encodable, states_length, object_at, run_history, encoded_acceptable, encoded_fits}
-use Rattle.promises.specs.Demand3.{Stands, due_at, reads_at, promised}
+use Rattle.promises.proofs.Tied.{Encodable, states_length, object_at, run_history, encoded_acceptable, encoded_fits}
+use Rattle.promises.proofs.Demand3.{Stands, due_at, reads_at, promised}
 use Rattle.promises.specs.Promises.{Promised, InEveryRun, run_of}
 
 -- ── Its states ──

@@ -9,11 +9,11 @@ use Rattle.rules.specs.declared.PlanRow.{PlanRow}
 use Rattle.rules.specs.RunState.{one_hold}
 use Rattle.rules.proofs.Tests.{and_left, and_right}
 use Rattle.theory.specs.Model.{State, in_hold, any, unit, holders}
-use Rattle.theory.specs.Cases.{yes_or_no}
-use Rattle.theory.specs.Holds.{no_holders}
+use Rattle.theory.proofs.Cases.{yes_or_no}
+use Rattle.theory.proofs.Holds.{no_holders}
 use Rattle.promises.specs.Encode.{encodes}
-use Rattle.promises.specs.Steps.{SameHold, Each, any_same}
-use Rattle.promises.specs.Steps.Each.{over, also}
+use Rattle.promises.proofs.Steps.{SameHold, Each, any_same}
+use Rattle.promises.proofs.Steps.Each.{over, also}
 
 none_any : (ws : List State) → holders ws ≡ 0 → any in_hold ws ≡ false
 unfolding any holders unit

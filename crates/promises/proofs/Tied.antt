@@ -19,17 +19,18 @@ use Rattle.rules.specs.RunState.{stored_ok, rest_ok, hand_ok, row_ok, row_none, 
 use Rattle.rules.specs.Run.{no_run_row, stored_as, slot_of}
 use Rattle.rules.proofs.Lists.{Every, every_append}
 use Rattle.theory.specs.Model.{Object, State, object, at, objects, actual, history, state, Acceptable}
-use Rattle.theory.specs.Track.{objects_length, objects_at, history_objects, history_length}
-use Rattle.theory.specs.Bounds.{stays_acceptable, sampled_before}
-use Rattle.theory.specs.Plain.{Whole, history_whole}
+use Rattle.theory.proofs.Track.{objects_length, objects_at, history_objects, history_length}
+use Rattle.theory.proofs.Bounds.{stays_acceptable, sampled_before}
+use Rattle.theory.specs.Plain.{Whole}
+use Rattle.theory.proofs.Plain.{history_whole}
 use Rattle.promises.specs.Runs.{run_after, Low, Fits, run_row}
 use Rattle.promises.specs.Encode.{object_of, course_from, stored_of, encode, encodes, encode_run}
-use Rattle.promises.specs.Clock.{wrap_tick, young_true, due_true}
-use Rattle.promises.specs.Sound.{Sound, sound_ok}
-use Rattle.promises.specs.Steps.{Known, Aging, Each, each_of, each_more, hold_row, slot_rows_law}
-use Rattle.promises.specs.Steps.Each.{over, also}
-use Rattle.promises.specs.Holds.{one_to}
-use Rattle.theory.specs.Cases.{cond_holds}
+use Rattle.promises.proofs.Clock.{wrap_tick, young_true, due_true}
+use Rattle.promises.proofs.Sound.{Sound, sound_ok}
+use Rattle.promises.proofs.Steps.{Known, Aging, Each, each_of, each_more, hold_row, slot_rows_law}
+use Rattle.promises.proofs.Steps.Each.{over, also}
+use Rattle.promises.proofs.Holds.{one_to}
+use Rattle.theory.proofs.Cases.{cond_holds}
 
 -- ── What the tie asks ──
 

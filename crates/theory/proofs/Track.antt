@@ -3,7 +3,7 @@ use Rattle.std.specs.Prelude.{ℕ, zero, suc, ◌+◌, ◌<◌, ◌≡◌, refl,
 use Rattle.std.proofs.Common.{sym, ap, ap₂, ◌∙◌, inl, inr, not-suc-le-zero, le_of_suc-le-suc}
 use Rattle.theory.specs.Model.{Object, State, object, at, objects, begun, skipped, release, releases, finished, one_less, worked}
 use Rattle.theory.specs.Model.{in_hold, may_work, any, work_first, step_two, Course, history, state, step_one, plans_of}
-use Rattle.theory.specs.Cases.{yes_or_no, release_holds, work_holds}
+use Rattle.theory.proofs.Cases.{yes_or_no, release_holds, work_holds}
 
 -- what decides one object's history: the instant at which it begins, the state then, the works given, and the slots that it gets
 pub record Alone : Type 0 where

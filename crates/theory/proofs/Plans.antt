@@ -10,7 +10,7 @@ pub balanced_meets : (ahead behind : List Object) (o : Object) → 0 < o.cost �
 balanced_meets ahead behind o pos within t balances le =
     record { cost_pos = pos; within = within; settles = t; settles_le = le; fits = omega arith }
 
--- what is stolen can be planned for like one more object ahead (Stolen.thief-within)
+-- what is stolen can be planned for like one more object ahead (Stolen.thief_within)
 pub thief_meets : (thief : Object) (ahead behind : List Object) (o : Object)
     → Meets (λ x. 0) (thief ∷ ahead) behind o → Meets (λ x. brings x thief) ahead behind o
 unfolding window_of

@@ -8,11 +8,11 @@ use Rattle.std.proofs.Common.{◌∙◌, inl, inr, ⊎_elim, add-zero, add-suc, 
 use Rattle.std.proofs.Math.Decide.{ℕ_discrete}
 use Rattle.theory.specs.Model.{State, releases, Course, history, step_one, plans_of, left_sum, Quiet, unit, tally, stolen_sum}
 use Rattle.theory.specs.Model.{Acceptable, window_of, hold_behind, need_of}
-use Rattle.theory.specs.Holds.{owed_sum, holders_owed}
-use Rattle.theory.specs.Slot.{slot_down, slot_behind, slot_law, slot_idle}
-use Rattle.theory.specs.Track.{turn, history_tracks, take_tracks, history_objects, objects_take, objects_drop}
-use Rattle.theory.specs.Bounds.{stays_acceptable, take_bounded}
-use Rattle.theory.specs.Window.{tally_le, begun_sum, begun_window, releases_left}
+use Rattle.theory.proofs.Holds.{owed_sum, holders_owed}
+use Rattle.theory.proofs.Slot.{slot_down, slot_behind, slot_law, slot_idle}
+use Rattle.theory.proofs.Track.{turn, history_tracks, take_tracks, history_objects, objects_take, objects_drop}
+use Rattle.theory.proofs.Bounds.{stays_acceptable, take_bounded}
+use Rattle.theory.proofs.Window.{tally_le, begun_sum, begun_window, releases_left}
 
 -- f is 0 in some slot of the window, or in none
 search_window : (f : ℕ → ℕ) (b x : ℕ) → ((t : ℕ) × (b ≤ t) × (t < b + x) × (f t ≡ 0)) ⊎ ((t : ℕ) → b ≤ t → t < b + x → 0 < f t)

@@ -13,7 +13,8 @@ use Rattle.rules.specs.StoredTable.{no_row, table_verdict}
 use Rattle.rules.specs.Refusals.{◌at_place◌, told}
 use Rattle.rules.specs.Order.{in_order}
 use Rattle.rules.specs.Deadlines.{hold_behind, plan_row, no_plan_row, plan_of, planned_rows}
-use Rattle.promises.specs.Exactly.{PlannedAs, refused_exactly, planned-or-refused, one_plan, IsDeadline, HasNone}
+use Rattle.promises.specs.Exactly.{PlannedAs, IsDeadline, HasNone}
+use Rattle.promises.proofs.Exactly.{refused_exactly, planned-or-refused, one_plan}
 use Rattle.promises.specs.Exactly.PlannedAs.{done, next}
 use Rattle.promises.specs.HoldsOfOne.{HoldsOne, same_hold}
 

@@ -5,7 +5,7 @@ use Rattle.std.proofs.Common.{sym, ◌∙◌, inl, inr, true≢false, arith, eqb
 use Rattle.std.proofs.lemmas.Bool.{false≢true, eqb-false}
 use Rattle.theory.specs.Model.{State, objects, begun, skipped, release, finished, one_less, worked, done_of, has_work, in_hold, any, unit}
 use Rattle.theory.specs.Model.{holders, hold_behind}
-use Rattle.theory.specs.Cases.{yes_or_no, and_both, or_neither, release_holds, work_holds}
+use Rattle.theory.proofs.Cases.{yes_or_no, and_both, or_neither, release_holds, work_holds}
 
 -- ── One object ──
 

@@ -13,15 +13,17 @@ use Rattle.rules.specs.declared.Run.{Run}
 use Rattle.rules.specs.Deadlines.{no_plan_row}
 use Rattle.rules.specs.Run.{begun_of, released_of, reading_of, true_reading}
 use Rattle.theory.specs.Model.{Object, State, at, Course, history, state, plan_at, left_sum, Quiet, Unstolen}
-use Rattle.theory.specs.Releases.{ReleaseOf, release_due}
+use Rattle.theory.specs.Releases.{ReleaseOf}
+use Rattle.theory.proofs.Releases.{release_due}
 use Rattle.promises.specs.Plans.{PlannedRows}
-use Rattle.promises.specs.Sound.{Sound}
+use Rattle.promises.proofs.Sound.{Sound}
 use Rattle.promises.specs.Runs.{run_after, run_row, DueAt, NothingLeft, RunObject, IsRelease, true_age}
 use Rattle.promises.specs.Encode.{object_of, course_from, encode, encode_run}
-use Rattle.promises.specs.Clock.{wrap_same}
-use Rattle.promises.specs.Tie.{Encodable, states_length, planned_at, encodable_after, run_history, row_at}
-use Rattle.promises.specs.InHistory.{KeptInHistory, kept_in_history}
-use Rattle.promises.specs.Readings.{reading_true}
+use Rattle.promises.proofs.Clock.{wrap_same}
+use Rattle.promises.proofs.Tied.{Encodable, states_length, planned_at, encodable_after, run_history, row_at}
+use Rattle.promises.specs.InHistory.{KeptInHistory}
+use Rattle.promises.proofs.InHistory.{kept_in_history}
+use Rattle.promises.proofs.Readings.{reading_true}
 use Rattle.promises.specs.Promises.{Promised}
 
 -- a release that is due with no work left begins a job

@@ -3,9 +3,9 @@
 use Rattle.std.specs.Prelude.{ℕ, ◌+◌, ◌≤◌, ◌<◌, ◌≡◌, length, take}
 use Rattle.std.proofs.Common.{le_refl, arith, drop_of_length-le, take_all}
 use Rattle.theory.specs.Model.{Course, history, plans_of, Quiet, stolen_sum, Acceptable, hold_behind, cost_sum, need_of}
-use Rattle.theory.specs.Track.{objects_length, history_length}
-use Rattle.theory.specs.Bounds.{left_le}
-use Rattle.theory.specs.Busy.{quiet_within}
+use Rattle.theory.proofs.Track.{objects_length, history_length}
+use Rattle.theory.proofs.Bounds.{left_le}
+use Rattle.theory.proofs.Busy.{quiet_within}
 
 -- within any l slots that hold all the costs, what l slots bring, and what is stolen of them
 pub recovers : (c : Course) → Acceptable c.from c.begin → (b l : ℕ) → 0 < l

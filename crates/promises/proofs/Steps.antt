@@ -20,12 +20,12 @@ use Rattle.rules.specs.Run as run
 use Rattle.rules.proofs.Holds.{released_hold}
 use Rattle.theory.specs.Model.{Object, State, at, begun, skipped, release, releases, finished, one_less, worked, has_work, in_hold, any}
 use Rattle.theory.specs.Model.{work_first, step_two, slot, Bounded, Past}
-use Rattle.theory.specs.Cases.{release_holds, work_holds}
-use Rattle.theory.specs.Holds.{work_left, in_hold_law, release_hold}
+use Rattle.theory.proofs.Cases.{release_holds, work_holds}
+use Rattle.theory.proofs.Holds.{work_left, in_hold_law, release_hold}
 use Rattle.theory.specs.Plain.{Whole}
 use Rattle.promises.specs.Encode.{object_of, lapsed_of, stored_of, encode, encodes}
-use Rattle.promises.specs.Clock.{wrap_later, wrap_tick, wrap_same, age_true}
-use Rattle.promises.specs.Sound.{Sound}
+use Rattle.promises.proofs.Clock.{wrap_later, wrap_tick, wrap_same, age_true}
+use Rattle.promises.proofs.Sound.{Sound}
 
 -- a count that stops at 4,294,967,295
 stops : (k : ℕ) → cond (ltb (min k 4294967295) 4294967295) (min k 4294967295 + 1) (min k 4294967295) ≡ min (suc k) 4294967295

@@ -14,8 +14,8 @@ use Rattle.theory.specs.Model.{state, Unstolen}
 use Rattle.promises.specs.Plans.{PlannedRows}
 use Rattle.promises.specs.Runs.{run_after, Fits, plans, DueAt, NothingLeft, going_on, IsRelease, true_age}
 use Rattle.promises.specs.Encode.{from_of, decode, states_at, course_of}
-use Rattle.promises.specs.Decode.{run_decoded, run_encodable, decoded_at}
-use Rattle.promises.specs.Demand3.{Stands, due_at, reads_at, promised}
+use Rattle.promises.proofs.Decode.{run_decoded, run_encodable, decoded_at}
+use Rattle.promises.proofs.Demand3.{Stands, due_at, reads_at, promised}
 use Rattle.promises.specs.Promises.{Promised}
 
 module _ (run : Run) (w : Fits run) (ok : acceptable run ≡ true) (stolen : ℕ → Bool) (i : ℕ) (row : RunRow)

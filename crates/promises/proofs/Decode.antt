@@ -24,14 +24,14 @@ use Rattle.theory.specs.Plain.{Whole}
 use Rattle.promises.specs.Runs.{run_after, Low, Fits, plans}
 use Rattle.promises.specs.Encode.{object_of, sample_of, lapsed_of, stored_of, encode, encodes, encode_run, from_of, sampled_in, value_in}
 use Rattle.promises.specs.Encode.{decode, beyond, states_at, course_of}
-use Rattle.promises.specs.Clock.{from_clock, from_due, from_sampled, sampled_past}
-use Rattle.theory.specs.Cases.{cond_holds}
+use Rattle.promises.proofs.Clock.{from_clock, from_due, from_sampled, sampled_past}
+use Rattle.theory.proofs.Cases.{cond_holds}
 use Rattle.promises.specs.Tests.{and_parts}
-use Rattle.promises.specs.Sound.{Sound, ok_sound}
-use Rattle.promises.specs.Steps.{Known, SameHold, Each, hold_row}
-use Rattle.promises.specs.Steps.Each.{over, also}
-use Rattle.promises.specs.Holds.{one_from}
-use Rattle.promises.specs.Tie.{Encodable, encodable_after, run_history, encoded_acceptable, encoded_fits}
+use Rattle.promises.proofs.Sound.{Sound, ok_sound}
+use Rattle.promises.proofs.Steps.{Known, SameHold, Each, hold_row}
+use Rattle.promises.proofs.Steps.Each.{over, also}
+use Rattle.promises.proofs.Holds.{one_from}
+use Rattle.promises.proofs.Tied.{Encodable, encodable_after, run_history, encoded_acceptable, encoded_fits}
 
 -- ── One row ──
 

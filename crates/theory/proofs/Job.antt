@@ -9,9 +9,9 @@ use Rattle.std.proofs.Math.Option.{Option, some}
 use Rattle.std.proofs.Math.Decide.{ℕ_discrete, dec_le}
 use borrow.Author.Tests.{eq-eqb, ne_eqb}
 use Rattle.theory.specs.Model.{Object, State, begun, release, finished, one_less, FreshAt, Bounded}
-use Rattle.theory.specs.Cases.{actual_pos}
-use Rattle.theory.specs.Track.{Alone, serve, track, serve_keeps, serve_holds, track_planned}
-use Rattle.theory.specs.Window.{next_bounds}
+use Rattle.theory.proofs.Cases.{actual_pos}
+use Rattle.theory.proofs.Track.{Alone, serve, track, serve_keeps, serve_holds, track_planned}
+use Rattle.theory.proofs.Window.{next_bounds}
 
 -- with no work left a slot changes nothing
 serve_none : (v : Bool) (w : State) → w.left ≡ 0 → serve v w ≡ w

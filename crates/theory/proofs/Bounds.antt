@@ -6,9 +6,9 @@ use Rattle.std.proofs.Math.Nat.{add-zero, add-suc}
 use Rattle.std.proofs.Common.{arith, length-take, get_or-take}
 use Rattle.theory.specs.Model.{State, no_state, at, objects, begun, skipped, release, finished, one_less, Course, history, state}
 use Rattle.theory.specs.Model.{plans_of, left_sum, holders, Bounded, Past, Acceptable, cost_sum}
-use Rattle.theory.specs.Cases.{actual_le, release_holds}
-use Rattle.theory.specs.Slot.{slot_holders}
-use Rattle.theory.specs.Track.{Alone, serve, serve_holds, track, alone_at, state_track, history_objects, history_length}
+use Rattle.theory.proofs.Cases.{actual_le, release_holds}
+use Rattle.theory.proofs.Slot.{slot_holders}
+use Rattle.theory.proofs.Track.{Alone, serve, serve_holds, track, alone_at, state_track, history_objects, history_length}
 
 -- ── One object ──
 

@@ -8,9 +8,9 @@ use Rattle.std.proofs.lemmas.Bool.{false≢true}
 use native.Mathlib.Omega.{arith}
 use Rattle.theory.specs.Model.{State, release, releases, worked, has_work, in_hold, may_work, any, work_first, step_two, slot}
 use Rattle.theory.specs.Model.{left_sum, unit, holders}
-use Rattle.theory.specs.Cases.{yes_or_no, unit_le}
-use Rattle.theory.specs.Holds.{work_left, no_work, in_hold_law, owed_sum, worked_left, worked_le, pay}
-use Rattle.theory.specs.Holds.{release_hold, release_owed, no_holders}
+use Rattle.theory.proofs.Cases.{yes_or_no, unit_le}
+use Rattle.theory.proofs.Holds.{work_left, no_work, in_hold_law, owed_sum, worked_left, worked_le, pay}
+use Rattle.theory.proofs.Holds.{release_hold, release_owed, no_holders}
 
 -- ── Step 1 over a list ──
 

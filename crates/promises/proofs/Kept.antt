@@ -8,20 +8,20 @@ use Rattle.rules.specs.StoredTable.{read_of}
 use Rattle.rules.specs.RunState.{acceptable}
 use Rattle.rules.specs.Deadlines.{plan_of}
 use Rattle.rules.specs.Run.{start_of, stepped_of}
-use Rattle.promises.specs.OnlyOrder.{order_is, only_order}
+use Rattle.promises.proofs.OnlyOrder.{order_is, only_order}
 use Rattle.promises.specs.HoldsOfOne.{plan_is_01, step_is_01}
-use Rattle.promises.specs.PlanExactly.{each_planned, planned_or_10, ten_exactly}
-use Rattle.promises.specs.StartExactly.{start_exactly}
-use Rattle.promises.specs.StartStored.{start_read_law, first_of_record, stored_exactly, started_or_refused}
+use Rattle.promises.proofs.PlanExactly.{each_planned, planned_or_10, ten_exactly}
+use Rattle.promises.proofs.StartExactly.{start_exactly}
+use Rattle.promises.proofs.StartStored.{start_read_law, first_of_record, stored_exactly, started_or_refused}
 use Rattle.promises.specs.ReadExactly.{reads_13_exactly, reads_14_exactly}
 use Rattle.promises.specs.Runs.{Fits}
 use Rattle.promises.specs.Slots.{slot_used}
-use Rattle.promises.specs.Decode.{accept_size, any_history, slot_keeps}
-use Rattle.promises.specs.Calls.{calls_are_slots}
-use Rattle.promises.specs.InHistory.{kept_in_history}
-use Rattle.promises.specs.FromAny.{row_due, row_reads, row_promised}
-use Rattle.promises.specs.Starts.{start_history, start_accepted, start_every_run, start_promised}
-use Rattle.promises.specs.SameAhead.{same_tables}
+use Rattle.promises.proofs.Decode.{accept_size, any_history, slot_keeps}
+use Rattle.promises.proofs.Calls.{calls_are_slots}
+use Rattle.promises.proofs.InHistory.{kept_in_history}
+use Rattle.promises.proofs.FromAny.{row_due, row_reads, row_promised}
+use Rattle.promises.proofs.Starts.{start_history, start_accepted, start_every_run, start_promised}
+use Rattle.promises.proofs.SameAhead.{same_tables}
 use Rattle.promises.specs.Promises.{OfTable, OfStart, OfStored, OfRun, Promises}
 
 of_table : (table : Table) → OfTable table

@@ -5,12 +5,13 @@ use Rattle.std.specs.Prelude.{ℕ, suc, ◌+◌, ◌≤◌, ◌<◌, ◌≡◌, 
 use Rattle.std.proofs.Common.{arith}
 use Rattle.theory.specs.Model.{at, Course, history, state, step_one, plans_of, plan_at, left_sum, Quiet, FreshAt, Unstolen, holders}
 use Rattle.theory.specs.Model.{Acceptable, cost_sum, need_of, Planned}
-use Rattle.theory.specs.Slot.{left_split, slot_unit}
-use Rattle.theory.specs.Bounds.{stays_acceptable}
+use Rattle.theory.proofs.Slot.{left_split, slot_unit}
+use Rattle.theory.proofs.Bounds.{stays_acceptable}
 use Rattle.theory.specs.Stolen.{unstolen_within}
 use Rattle.theory.specs.Releases.{ReleaseOf}
-use Rattle.theory.specs.InTime.{MeetsAt, meets_at, Kept, quiet_again, deadlines, no_skips, freshness}
-use Rattle.theory.specs.Recovery.{recovers}
+use Rattle.theory.specs.InTime.{MeetsAt, Kept}
+use Rattle.theory.proofs.InTime.{meets_at, quiet_again, deadlines, no_skips, freshness}
+use Rattle.theory.proofs.Recovery.{recovers}
 
 -- ONE UNIT A SLOT. A slot that is not stolen does one unit, if work is left over or just begun.
 pub one_unit : (c : Course) (t : ℕ) → c.stolen t ≡ false → 0 < left_sum (step_one c t)

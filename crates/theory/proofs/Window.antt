@@ -8,9 +8,9 @@ use Rattle.std.proofs.Math.Nat.{add-suc}
 use native.Mathlib.Omega.{arith}
 use Rattle.theory.specs.Model.{Object, State, at, objects, begun, skipped, release, releases, left_sum, unit, tally}
 use Rattle.theory.specs.Model.{Bounded, ceiling, window_of}
-use Rattle.theory.specs.Cases.{actual_le, release_holds}
-use Rattle.theory.specs.Track.{Alone, alone, track, track_planned, serve_keeps, tracks}
-use Rattle.theory.specs.Bounds.{track_bounded}
+use Rattle.theory.proofs.Cases.{actual_le, release_holds}
+use Rattle.theory.proofs.Track.{Alone, alone, track, track_planned, serve_keeps, tracks}
+use Rattle.theory.proofs.Bounds.{track_bounded}
 
 -- ── Sums over a window ──
 

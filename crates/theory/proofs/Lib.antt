@@ -1,0 +1,17 @@
+pub mod Cases
+pub mod Holds
+pub mod Slot
+pub mod Track
+pub mod Bounds
+pub mod Window
+pub mod Busy
+pub mod Job
+pub mod Releases
+pub mod Prefix
+pub mod InTime
+pub mod Recovery
+pub mod Plans
+pub mod Start
+pub mod Plain
+pub mod Theorems
+pub mod Examples

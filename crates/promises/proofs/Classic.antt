@@ -92,13 +92,13 @@ both_fit ms hs (r ∷ rs) a g e =
 -- a table that fits Half-Half is planned by More-Less too, and row by row the period is no shorter and the deadline no later
 pub fits_both : (table : Table) → told (classic_of table).verdict ≡ 0 at_place 0
     → (told (plan_of table).verdict ≡ 0 at_place 0) × AllNoWorse (planned_rows (plan_of table).plan) (planned_rows (classic_of table).plan)
-fits_both table Told-none = let both = by_verdict (table_verdict table) refl in (ap told both.0, both.1)
+fits_both table told_none = let both = by_verdict (table_verdict table) refl in (ap told both.0, both.1)
   where
     rows : List ObjectRow
     rows = in_order table.rows table.count
 
     e : (classic_of table).verdict ≡ Accepted
-    e = told_settles (classic_of table).verdict Accepted Told-none
+    e = told_settles (classic_of table).verdict Accepted told_none
 
     by_verdict : (v : Verdict) → table_verdict table ≡ v → ((plan_of table).verdict ≡ Accepted) × AllNoWorse (planned_rows (plan_of table).plan) (planned_rows (classic_of table).plan)
     by_verdict (Refused r k) w = let z : ◌≡◌ {A = ℕ} 0 1 = cc (w, e) in absurd (omega arith)

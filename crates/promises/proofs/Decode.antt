@@ -50,17 +50,17 @@ row_says clock row ok =
     let v = row.planned.validity in
     let hand = rest_ok row && hand_ok clock row in
     let q = and_parts (plan_ok row.planned) (next_ok clock row) (left_ok row) (stored_ok clock v row.stored) hand ok in
-    let rests-held = both_true (rest_ok row) (hand_ok clock row) q.4 in
+    let rests_held = both_true (rest_ok row) (hand_ok clock row) q.4 in
     record {
       sound = ok_sound row.planned q.0;
       near = ltb-true _ _ q.1;
       left_le = leb-true _ _ q.2;
       stored_young = q.3;
       at_rest = λ z.
-          let g : eqb row.sample 0 && not row.lapsed ≡ true = simp (eq-eqb row.left 0 z) at rests-held.0 in
+          let g : eqb row.sample 0 && not row.lapsed ≡ true = simp (eq-eqb row.left 0 z) at rests_held.0 in
           let b = both_true (eqb row.sample 0) (not row.lapsed) g in
           (eqb-true _ _ b.0, not-true _ b.1);
-      in_hand = λ h e. ltb-true _ _ (simp (ne_eqb row.left 0 (λ z. omega arith), e) at rests-held.1);
+      in_hand = λ h e. ltb-true _ _ (simp (ne_eqb row.left 0 (λ z. omega arith), e) at rests_held.1);
     }
 
 -- its stored value is, in 32 bits, the one that it is handed in with

@@ -190,10 +190,10 @@ module _ (table : Table) (well_formed : table_verdict table ≡ Accepted) where
   ]
 
   -- there is no third answer
-  pub planned-or-refused :
+  pub planned_or_refused :
       ((plans : List PlanRow) × PlannedAs (length rows) [] rows plans × (plan_of table ≡ accepted_plan plans))
       ⊎ ((k : ℕ) × FirstWithout [] rows k × (plan_of table ≡ refused_plan NoDeadline k))
-  planned-or-refused = elim (planned_or_none [] rows) [
+  planned_or_refused = elim (planned_or_none [] rows) [
     | inl p ↦ inl (p.0, p.1, settled ∙ p.2)
     | inr p ↦ inr (p.0, p.1, refused_at p.0 p.2)
   ]

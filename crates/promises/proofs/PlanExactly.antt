@@ -18,7 +18,7 @@ use Rattle.rules.proofs.Places.{in_order_length}
 use Rattle.rules.proofs.Checks.{Ranged, both_accept, refused_not}
 use Rattle.rules.proofs.Told.{told_settles}
 use Rattle.promises.specs.Exactly.{PlannedAs, FirstWithout}
-use Rattle.promises.proofs.Exactly.{refused_exactly, planned-or-refused, ill_formed}
+use Rattle.promises.proofs.Exactly.{refused_exactly, planned_or_refused, ill_formed}
 use Rattle.promises.specs.Exactly.PlannedAs.{done, next}
 use Rattle.promises.proofs.Covers.{deadline_covers}
 use Rattle.promises.proofs.SamePlan.{planned_as}
@@ -101,7 +101,7 @@ ten_exactly table k = (by_verdict (table_verdict table) refl, λ p. (refused_exa
 -- and a well-formed table gets no other refusal
 pub planned_or_10 : (table : Table) → table_verdict table ≡ Accepted
     → ((plan_of table).verdict ≡ Accepted) ⊎ ((k : ℕ) × (told (plan_of table).verdict ≡ 10 at_place k))
-planned_or_10 table w = elim (planned-or-refused table w) [
+planned_or_10 table w = elim (planned_or_refused table w) [
   | inl p ↦ inl (ap (λ (x : Planned). x.verdict) p.2)
   | inr p ↦ inr (p.0, ap (λ (x : Planned). told x.verdict) p.2)
 ]

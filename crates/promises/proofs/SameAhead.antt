@@ -31,16 +31,16 @@ use Rattle.promises.proofs.Starts.{started_with, object_stands}
 -- ── Two runs whose first k objects begin alike ──
 
 module _ {k i : ℕ} {ps ps' : List PlanRow} {beyond beyond' : List RunRow} {from : ℕ} {ws ws' : List State}
-    (x : Encodable ps beyond from ws) (x' : Encodable ps' beyond' from ws') (plans-same : take k ps ≡ take k ps')
+    (x : Encodable ps beyond from ws) (x' : Encodable ps' beyond' from ws') (plans_same : take k ps ≡ take k ps')
     (begin_same : take k ws ≡ take k ws') (unheld : Prefix.Unheld k (map object_of ps)) (unheld' : Prefix.Unheld k (map object_of ps'))
     (h : i < k) (l : i < length ps) (stolen : ℕ → Bool) (t : ℕ) where
   same_plan : get_or ps i no_plan_row ≡ get_or ps' i no_plan_row
   same_plan =
       sym (get_or-take k ps i no_plan_row h)
-      ∙ (ap (λ (qs : List PlanRow). get_or qs i no_plan_row) plans-same ∙ get_or-take k ps' i no_plan_row h)
+      ∙ (ap (λ (qs : List PlanRow). get_or qs i no_plan_row) plans_same ∙ get_or-take k ps' i no_plan_row h)
 
   same_place : i < length ps'
-  same_place = let e = rw (length-take k ps, length-take k ps') at (ap length plans-same) in omega arith
+  same_place = let e = rw (length-take k ps, length-take k ps') at (ap length plans_same) in omega arith
 
   same_state : state (course_from from ws stolen) i t ≡ state (course_from from ws' stolen) i t
   same_state =

@@ -14,7 +14,7 @@ use Rattle.rules.specs.Refusals.{◌at_place◌, told}
 use Rattle.rules.specs.Order.{in_order}
 use Rattle.rules.specs.Deadlines.{hold_behind, plan_row, no_plan_row, plan_of, planned_rows}
 use Rattle.promises.specs.Exactly.{PlannedAs, IsDeadline, HasNone}
-use Rattle.promises.proofs.Exactly.{refused_exactly, planned-or-refused, one_plan}
+use Rattle.promises.proofs.Exactly.{refused_exactly, planned_or_refused, one_plan}
 use Rattle.promises.specs.Exactly.PlannedAs.{done, next}
 use Rattle.promises.specs.HoldsOfOne.{HoldsOne, same_hold}
 
@@ -58,7 +58,7 @@ planned_as table e = by_verdict (table_verdict table) refl
 
     by_verdict : (v : Verdict) → table_verdict table ≡ v → PlannedAs (length rows) [] rows (planned_rows (plan_of table).plan)
     by_verdict (Refused r k) w = let z : ◌≡◌ {A = ℕ} 0 1 = cc (w) in absurd (omega arith)
-    by_verdict Accepted w = elim (planned-or-refused table w) [
+    by_verdict Accepted w = elim (planned_or_refused table w) [
       | inl p ↦
           (let s : planned_rows (plan_of table).plan ≡ p.0 =
           rw p.2 (take-append_seam p.0 (replicate (64 - length p.0) no_plan_row)) in

@@ -111,11 +111,11 @@ pub there_and_back : (from : Form) (s : List ℕ) → Every (λ b. b < 256) s �
     → length s ≡ table_size from (count_of s) → Every (λ x. x ≡ 0) (stored_firsts s)
     → (there back : List ℕ) → table_size (other_form from) (count_of s) ≤ length there → length s ≤ length back
     → handed_over (other_form from) (handed_over from s there) back ≡ s
-there_and_back from s bytes reads e no_gap unused there back room-there room_back =
+there_and_back from s bytes reads e no_gap unused there back room_there room_back =
     let to = other_form from in
     let whole : length s ≡ table_size (form_of s) (count_of s) = no_gap ∙ ap (λ (f : Form). table_size f (count_of s)) (sym e) in
-    let is-form = other_is_form from (ap is_form (sym e) ∙ (known s reads).form) in
-    let written = writes s reads to (length there) is-form (none_used to (stored_firsts s) unused) room-there in
+    let of_form = other_is_form from (ap is_form (sym e) ∙ (known s reads).form) in
+    let written = writes s reads to (length there) of_form (none_used to (stored_firsts s) unused) room_there in
     let h = handed_bytes from s there (converts from s (length there) e reads written) in
     let t = bytes_of (converted_from from s) in
     let held = bytes_held s reads to (length there) written in

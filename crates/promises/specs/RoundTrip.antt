@@ -163,7 +163,7 @@ mark_of_law s = by_one (eqb (mark_of s) (form_mark One)) refl (eqb (mark_of s) (
     by_one false p true q e = sym (eqb-true (mark_of s) (form_mark Two) q)
     by_one false p false q e = let z : ◌≡◌ {A = ℕ} 0 1 = cc in absurd (omega arith)
 
-module _ (form : Form) (rows : List ObjectRow) (firsts : List ℕ) (is-form : is_form form ≡ true) (few : length rows ≤ 64) where
+module _ (form : Form) (rows : List ObjectRow) (firsts : List ℕ) (of_form : is_form form ≡ true) (few : length rows ≤ 64) where
   abbrev records : List ℕ
   records = records_bytes form rows firsts
 
@@ -189,7 +189,7 @@ module _ (form : Form) (rows : List ObjectRow) (firsts : List ℕ) (is-form : is
   mark_back = le16_behind records trailer (length s - 2) 6 (at_trailer 6 (omega arith)) ∙ omega arith
 
   form_back : form_of s ≡ form
-  form_back = form_marked form s is-form mark_back
+  form_back = form_marked form s of_form mark_back
 
   start_back : records_start s ≡ 0 + 0
   start_back = omega (arith, long, distance_back)
@@ -198,7 +198,7 @@ module _ (form : Form) (rows : List ObjectRow) (firsts : List ℕ) (is-form : is
   trailer_back some =
       let small = size_small form (length rows) few in
       let size : table_size (form_of s) (count_of s) ≡ table_size form (length rows) = ap₂ table_size form_back count_back in
-      in_order_law s (omega (arith, long)) (omega (arith, long, small)) (rw form_back is-form) (omega (arith, count_back))
+      in_order_law s (omega (arith, long)) (omega (arith, long, small)) (rw form_back of_form) (omega (arith, count_back))
       (omega (arith, count_back)) (omega (arith, size, distance_back)) (omega (arith, long, distance_back))
 
   module _ (good : checks_from 0 [] rows ≡ Accepted) (fit : Every (HasPlace form) firsts) (same : length firsts ≡ length rows) where
@@ -286,10 +286,10 @@ module _ (s : List ℕ) (reads : read_verdict s ≡ Accepted) where
   pub writes : (form : Form) (size : ℕ) → is_form form ≡ true → unused_verdict form (stored_firsts s) ≡ Accepted
       → table_size form (count_of s) ≤ size
       → write_verdict (record { form = form; table = (stored_of s).table; firsts = (stored_of s).firsts }) size ≡ Accepted
-  writes form size is-form unused room =
+  writes form size of_form unused room =
       let fits : room_verdict (table_size form (length (stored_rows s))) size ≡ Accepted =
       rw (rows_count s reads, le-leb (table_size form (count_of s)) size room) in
-      rw (is-form, well_formed s reads, firsts_in s reads, unused, fits)
+      rw (of_form, well_formed s reads, firsts_in s reads, unused, fits)
 
   pub writes_again : (size : ℕ) → table_size (form_of s) (count_of s) ≤ size → write_verdict (stored_of s) size ≡ Accepted
   writes_again size room =
@@ -341,18 +341,18 @@ module _ (stored : StoredTable) (size : ℕ) (rows-64 : length stored.table.rows
       let n = stored.table.count in
       let rows = rows_in stored.table in
       let firsts = take n stored.firsts in
-      let is-form = test_passed (is_form form) WrongMark 0 _ good in
-      let table = both_accept (table_verdict stored.table) _ is-form.1 in
+      let of_form = test_passed (is_form form) WrongMark 0 _ good in
+      let table = both_accept (table_verdict stored.table) _ of_form.1 in
       let unused = (both_accept (unused_verdict form firsts) _ table.1).0 in
       let checks = both_accept (count_verdict n) (checks_from 0 [] rows) table.0 in
       let count = count_said n checks.0 in
       let a : length rows ≡ n = length-take-le n stored.table.rows (omega arith) in
       let b : length firsts ≡ n = length-take-le n stored.firsts (omega arith) in
       let few : length rows ≤ 64 = omega arith in
-      let fit = placed form firsts is-form.0 unused in
+      let fit = placed form firsts of_form.0 unused in
       let same : length firsts ≡ length rows = b ∙ sym a in (
-        stored_back form rows firsts is-form.0 few checks.1 fit same ∙ rw a,
-        reads_back form rows firsts is-form.0 few checks.1 fit same (omega arith),
+        stored_back form rows firsts of_form.0 few checks.1 fit same ∙ rw a,
+        reads_back form rows firsts of_form.0 few checks.1 fit same (omega arith),
       )
 
 -- what is written into a buffer reads back as the same form, rows and first releases in the same order

@@ -1,2 +1,2 @@
-// A model of updates on one core in true time and the theorems about it, in specs/. There is no code here.
+// A model of updates on one core in true time, in specs/, and the theorems about it, in proofs/. There is no code here.
 #![tactic(auto)]

@@ -1,2 +1,3 @@
-// A model of updates on one core in true time, in specs/, and the theorems about it, in proofs/. There is no code here.
+// A model of updates on one core in true time, in specs/, and the theorems about it, in proofs/, but for those of Stolen, which are in specs/.
+// There is no code here.
 #![tactic(auto)]

@@ -6,11 +6,17 @@ mod line;
 mod refusals;
 mod texts;
 
-use libc::{STDERR_FILENO, STDOUT_FILENO};
 pub use line::{end, put, put_blanks, put_number, put_padded, put_text};
 pub use refusals::{explain_plan, explain_sheet, explain_start, explain_table};
 use rules::Refusal;
 pub use texts::{complain, filled, line_of};
+
+// The descriptors that every process has.
+pub const STDIN_FILENO: i32 = 0;
+
+pub const STDOUT_FILENO: i32 = 1;
+
+pub const STDERR_FILENO: i32 = 2;
 
 // The bytes as they are.
 pub fn text(bytes: &[u8]) {

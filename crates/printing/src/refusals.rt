@@ -1,7 +1,7 @@
 // A refusal in words, on standard error: what is wrong, where, and what to do. Records, lines and places count from 1 here, as people count.
+use crate::STDERR_FILENO;
 use crate::texts::{complain_of, numbers};
 use diagnosis::Row;
-use libc::STDERR_FILENO;
 use rules::{Refusal, Table};
 
 // The sentences by number. Those of 6 to 9 and 18 begin with the record or the line, and that of 10 goes on with what the object needs.

@@ -2,7 +2,7 @@
 // for a number.
 ghost use Rattle.std.specs.Prelude.{◌≤◌, length};
 
-use libc::{STDERR_FILENO, STDOUT_FILENO};
+use crate::{STDERR_FILENO, STDOUT_FILENO};
 
 // Where line `n` begins, counted from 0; the end of the texts where there are fewer lines.
 fn line_start(texts: &[u8], n: usize) -> usize

@@ -1,7 +1,7 @@
 // The plan program: reads a stored table from standard input and prints its plan, or "refused N at K" and, on standard error, why.
 #![tactic(auto)]
 
-use libc::STDIN_FILENO;
+use printing::STDIN_FILENO;
 use rules::{Plan, PlanRow, Table, Verdict};
 
 // One object: id, cost, validity, deadline, period.

@@ -2,7 +2,7 @@
 // standard error as "refused N at K" and why, and nothing is written.
 #![tactic(auto)]
 
-use libc::STDIN_FILENO;
+use printing::STDIN_FILENO;
 use rules::{Table, Verdict};
 
 // The bytes of the table. 64 records and the trailer are 776 bytes.

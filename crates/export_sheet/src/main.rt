@@ -2,7 +2,7 @@
 // standard error as "refused N at K" and why, and nothing is written.
 #![tactic(auto)]
 
-use libc::STDIN_FILENO;
+use printing::STDIN_FILENO;
 use rules::{Form, Table, Verdict};
 
 // The lines of the table. A line of four numbers in their ranges has at most 29 bytes, and there are at most 64.

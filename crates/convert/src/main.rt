@@ -2,7 +2,7 @@
 // went stands on standard error, and so does a refusal, as "refused N at K" and why; then nothing is written.
 #![tactic(auto)]
 
-use libc::STDIN_FILENO;
+use printing::STDIN_FILENO;
 use rules::{Form, Refusal, Verdict};
 
 fn refuse(bytes: &[u8], refusal: Refusal, place: usize) {

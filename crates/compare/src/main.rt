@@ -2,8 +2,7 @@
 // side with each object's share of the core, or which of the two refuses and where; why ours does, on standard error.
 #![tactic(auto)]
 
-use libc::STDIN_FILENO;
-use printing::{end, put, put_blanks, put_number, put_padded, put_text};
+use printing::{STDIN_FILENO, end, put, put_blanks, put_number, put_padded, put_text};
 use rules::{ObjectRow, Plan, PlanRow, Table, Verdict};
 
 // An object's share of the core in hundredths of a per cent, rounded up.

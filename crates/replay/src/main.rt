@@ -8,7 +8,7 @@ mod summary;
 mod tallies;
 mod words;
 
-use libc::STDIN_FILENO;
+use printing::STDIN_FILENO;
 use rules::{Form, Refusal, Run, Started, StoredTable, Table, Verdict};
 use words::Words;
 
@@ -136,8 +136,8 @@ fn wrong(word: usize) {
 }
 
 // The pattern of stolen slots is its word, or no slot where there is none.
-fn main() {
-    let words = words::read();
+fn main(rt: HostRuntime) {
+    let words = words::read(rt);
     if words.wrong != 0 {
         wrong(words.wrong);
         return;
@@ -147,7 +147,7 @@ fn main() {
         return;
     }
     let mut word = io::buffer();
-    let n = os::arg(words.stolen, &mut word);
+    let n = words::arg(rt, words.stolen, &mut word);
     if words::is_pattern(&word[..n]) {
         answer_input(words, &word[..n]);
     } else {

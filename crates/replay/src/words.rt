@@ -1,7 +1,8 @@
 // The words of the command: --slots, --first, --stolen and --from, each with its value, and what is said of wrong ones, on standard error.
-ghost use Rattle.std.specs.Prelude.{◌≤◌};
+ghost use Rattle.std.specs.Prelude.{◌≤◌, length};
 
 use rules::{Started, Table};
+use std::env::{Env, FillError};
 
 // A list of numbers separated by commas, read up to some byte: whether it is in order so far, whether a number is open and
 // its value, and the numbers before it. One place more than objects are possible, so that too many are seen to be so.
@@ -190,13 +191,33 @@ fn with_firsts(words: Words, firsts: List) -> Words {
     next
 }
 
+// How many words there are, the program's own name among them; 34 where there are more.
+fn arg_count(rt: HostRuntime) -> usize {
+    for k in 0..34usize {
+        if let Err(FillError::NotPresent) = rt.arg(k, &mut [0u8; 0]) {
+            return k;
+        }
+    }
+    34
+}
+
+// Puts the word at `at` into the buffer. Answers how long it is; 0 where there is none or where it does not fit.
+pub(crate) fn arg(rt: HostRuntime, at: usize, buf: &mut [u8]) -> usize
+    ensures { result ≤ length buf.new }
+{
+    match rt.arg(at, buf) {
+        Ok(n) => n,
+        Err(_) => 0,
+    }
+}
+
 // The words with the one at `at` and its value behind it.
-fn with_word(words: Words, at: usize) -> Words {
+fn with_word(rt: HostRuntime, words: Words, at: usize) -> Words {
     let mut name = [0u8; 16];
-    let n = os::arg(at, &mut name);
+    let n = arg(rt, at, &mut name);
     let behind = std::num::wrapping_add_usize(at, 1);
     let mut value = [0u8; 1024];
-    let size = os::arg(behind, &mut value);
+    let size = arg(rt, behind, &mut value);
     let which = named(&name[..n]);
     let list = listed(&value[..size]);
     let mut next = words;
@@ -215,12 +236,12 @@ fn with_word(words: Words, at: usize) -> Words {
 }
 
 // All words; the program's own name is the first of them. No more than 16 names are looked at.
-pub(crate) fn read() -> Words {
-    let count = os::arg_count();
+pub(crate) fn read(rt: HostRuntime) -> Words {
+    let count = arg_count(rt);
     let mut words = no_words();
     for k in 0..16usize {
         if 2 * k + 1 < count {
-            let more = with_word(words, 2 * k + 1);
+            let more = with_word(rt, words, 2 * k + 1);
             words = more;
         }
     }

@@ -1,9 +1,5 @@
 -- `convert::convert` stays within its buffer. Assumes nothing.
 use Prim.Native.Nat.{◌≤◌}
-use mathlib.Core.Path.{◌≡◌, sym}
-use native.Mathlib.Omega.{arith}
-use lib.ListN.{length}
-use lib.Seq.{length-take-le}
 use Rattle.convert.proofs.Room.{converted_within}
 use borrow.Author.Rules.{rules}
 use Rattle.convert.proofs.convert.Goals as goal
@@ -14,11 +10,3 @@ slice_bounds-converted-end c =
     let a = c.args in
     let few : w.result.size ≤ 1032 = rw w.ensures.1 (converted_within a.from a.bytes.now _) in
     search rules
-
-pub slice_bounds-text-end : goal.slice_bounds-text-end
-slice_bounds-text-end c =
-    let w = c.convert-written in
-    let a = c.args in
-    let few : w.result.size ≤ 1032 = rw w.ensures.1 (converted_within a.from a.bytes.now _) in
-    let long : length w.new.buffer ≡ 1032 = search rules in
-    sym (length-take-le w.result.size w.new.buffer (omega (arith, few, long)))

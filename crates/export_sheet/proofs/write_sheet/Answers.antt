@@ -1,9 +1,5 @@
 -- `export_sheet::write_sheet` stays within its buffer. Assumes nothing.
 use Prim.Native.Nat.{◌≤◌}
-use mathlib.Core.Path.{◌≡◌, sym}
-use native.Mathlib.Omega.{arith}
-use lib.ListN.{length}
-use lib.Seq.{length-take-le}
 use Rattle.export_sheet.proofs.Room.{exported_within}
 use borrow.Author.Rules.{rules}
 use Rattle.export_sheet.proofs.write_sheet.Goals as goal
@@ -13,10 +9,3 @@ slice_bounds-bytes-end c =
     let w = c.export-written in
     let few : w.result.size ≤ 1856 = rw w.ensures.1 (exported_within c.args.table _) in
     search rules
-
-pub slice_bounds-text-end : goal.slice_bounds-text-end
-slice_bounds-text-end c =
-    let w = c.export-written in
-    let few : w.result.size ≤ 1856 = rw w.ensures.1 (exported_within c.args.table _) in
-    let long : length w.new.buffer ≡ 1856 = search rules in
-    sym (length-take-le w.result.size w.new.buffer (omega (arith, few, long)))

@@ -1,4 +1,4 @@
-//! Tells the linker where libchannelfox.a is: CHANNELFOX_LIB_DIR, otherwise target/staticlib of the repository.
+//! Tells the linker where libchannelfox.a is: CHANNELFOX_LIB_DIR, otherwise crates/channelfox/out of the repository.
 
 use std::env;
 use std::path::PathBuf;
@@ -18,7 +18,7 @@ fn library_folder() -> PathBuf {
         Some(folder) => PathBuf::from(folder),
         None => {
             let package = env::var_os("CARGO_MANIFEST_DIR").expect("cargo names the package folder");
-            PathBuf::from(package).join("../../target/staticlib")
+            PathBuf::from(package).join("../../crates/channelfox/out")
         }
     }
 }

@@ -1,6 +1,6 @@
 /* Channelfox for C: stored tables, plans and runs, by the rules of document 01.
  *
- * Link with libchannelfox.a (`rt staticlib channelfox`). Bytes, rows, numbers and run states may be good or bad: what is bad is
+ * Link with libchannelfox.a (`rt lib` in crates/channelfox). Bytes, rows, numbers and run states may be good or bad: what is bad is
  * refused with a number and a place, and nothing more is asked than what stands here.
  *
  * Memory. Nothing is allocated and nothing is kept between calls. What is lent for reading (`const`) is never changed; a buffer or a run
@@ -13,7 +13,7 @@
  * Sizes, in bytes: a table 1,032, a stored table 1,296, a plan 1,544, a run 3,344; an object row 16, a planned row 24, a run row 52, a
  * part 24; the answers a verdict (16) more.
  * Stack, measured with 64 objects, arguments and answer by value included: channelfox_start_stored 33 KB, channelfox_start 32,
- * channelfox_advance 31, channelfox_slot 21, channelfox_read_value 17, the plans 14, the others under 7.
+ * channelfox_advance 31, channelfox_slot 21, channelfox_read_value 17, the plans 14, the others under 7 (built by rattle-kit-5b).
  * Padding. There are two bytes of padding behind each `id`, and padding behind `number`, `clock` and the `form` of a stored table: they
  * are not set, so two equal structs may differ under memcmp. Compare field by field.
  * Targets. The library is compiled for x86-64 Linux, for C99 and later and for C++.

@@ -4,7 +4,6 @@ use Rattle.std.specs.Prelude.{ℕ, ◌≡◌, refl, true, false, List, [], ◌�
 use Rattle.rules.specs.declared.Form.{Form}
 use Rattle.rules.specs.declared.Form.TheVariants.{NoForm, One, Two}
 use Rattle.rules.specs.declared.RunRow.{RunRow}
-use Rattle.rules.specs.declared.Part.{Part}
 use Rattle.rules.specs.Refusals.{Told, ◌at_place◌, told}
 use Rattle.rules.specs.StoredTable.{read_of, chosen_part}
 use Rattle.rules.specs.Writing.{table_bytes}

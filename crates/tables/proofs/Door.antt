@@ -11,7 +11,7 @@ use Rattle.rules.specs.StoredTable.{no_row, door_of}
 use Rattle.rules.proofs.Checks.{count_many}
 use Rattle.tables.specs.Copied.{fitted, copied_of, checked_of}
 
-fitted_none : (n : ℕ) → fitted n [] ≡ replicate n no_row
+pub fitted_none : (n : ℕ) → fitted n [] ≡ replicate n no_row
 unfolding fitted
 fitted_none zero = refl
 fitted_none (suc n) = ap {B = List ObjectRow} (λ rs. no_row ∷ rs) (fitted_none n)

@@ -1,18 +1,15 @@
 -- `tables::copy_rows` meets its contract: after i turns the first i rows stand in the table. Assumes nothing.
-use Rattle.std.proofs.Common.{◌≡◌, refl, sym, ◌∙◌, ap, inl, inr, ℕ, zero, suc, ◌+◌, ◌<◌, ◌≤◌, add-one, arith, List, [], ◌∷◌, length, get_or, take, set, replicate}
+use Rattle.std.proofs.Common.{◌≡◌, refl, sym, ◌∙◌, ap, inl, inr, ℕ, zero, suc, ◌+◌, ◌<◌, ◌≤◌, add-one, arith, List, [], ◌∷◌, length, get_or, take, set}
+use Rattle.std.proofs.Math.Seq.{take-length}
 use native.Mathlib.Nat.{not-suc-le-zero, le_of_suc-le-suc, eq-or-lt_of_le}
 use Rattle.rules.specs.declared.ObjectRow.{ObjectRow}
 use Rattle.rules.specs.declared.Table.{Table}
 use Rattle.rules.specs.StoredTable.{no_row}
 use Rattle.tables.specs.Copied.{fitted, copied_of, empty_of, placed}
+use Rattle.tables.proofs.Door.{fitted_none}
 use Rattle.tables.proofs.copy_rows.Goals as goal
 
 -- ---- lists
-fitted_none : (m : ℕ) → replicate m no_row ≡ fitted m []
-unfolding fitted
-fitted_none zero = refl
-fitted_none (suc m) = ap {B = List ObjectRow} (λ rs. no_row ∷ rs) (fitted_none m)
-
 fitted_set : (m i : ℕ) (ys : List ObjectRow) → i < m → i < length ys → set (fitted m (take i ys)) i (get_or ys i no_row) ≡ fitted m (take (suc i) ys)
 unfolding fitted
 fitted_set zero i ys l k = absurd (not-suc-le-zero l)
@@ -26,10 +23,6 @@ fitted_full zero ys = refl
 fitted_full (suc m) [] = refl
 fitted_full (suc m) (y ∷ ys) = ap {B = List ObjectRow} (λ rs. y ∷ rs) (fitted_full m ys)
 
-take_all : (ys : List ObjectRow) → take (length ys) ys ≡ ys
-take_all [] = refl
-take_all (y ∷ ys) = ap {B = List ObjectRow} (λ rs. y ∷ rs) (take_all ys)
-
 -- ---- the table after i turns
 abbrev with_rows : ℕ → List ObjectRow → Table
 with_rows n rs = record { count = n; rows = rs }
@@ -38,7 +31,7 @@ abbrev after : List ObjectRow → ℕ → Table
 after ys i = with_rows (length ys) (fitted 64 (take i ys))
 
 after_none : (ys : List ObjectRow) → empty_of (length ys) ≡ after ys 0
-after_none ys = ap (with_rows (length ys)) (fitted_none 64)
+after_none ys = ap (with_rows (length ys)) (sym (fitted_none 64))
 
 after_one : (ys : List ObjectRow) (i : ℕ) → i < 64 → i < length ys → placed (after ys i) i (get_or ys i no_row) ≡ after ys (i + 1)
 after_one ys i l k = ap (with_rows (length ys)) (fitted_set 64 i ys l k ∙ ap (λ (j : ℕ). fitted 64 (take j ys)) (sym (add-one i)))
@@ -49,7 +42,7 @@ Least n r = (r ≤ 64) × (r ≤ n) × (r < 64 → r ≡ n)
 after_all : (ys : List ObjectRow) (n : ℕ) → Least (length ys) n → after ys n ≡ copied_of ys
 after_all ys n f = ap (with_rows (length ys)) (elim (eq-or-lt_of_le f.0) [
   | inl e ↦ ap (λ (j : ℕ). fitted 64 (take j ys)) e ∙ fitted_full 64 ys
-  | inr l ↦ ap (λ (j : ℕ). fitted 64 (take j ys)) (f.2 l) ∙ ap (fitted 64) (take_all ys)
+  | inr l ↦ ap (λ (j : ℕ). fitted 64 (take j ys)) (f.2 l) ∙ ap (fitted 64) (take-length ys)
 ])
 
 pub loop-i-init : goal.loop-i-init

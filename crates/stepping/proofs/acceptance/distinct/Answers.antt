@@ -1,7 +1,18 @@
 -- `stepping::acceptance::distinct` meets its contract: the ids up to `a` differ from all behind them. Assumes nothing.
-use Rattle.std.proofs.Common.{sym, ◌∙◌, arith, rules}
+use Rattle.std.proofs.Common.{refl, ap, sym, ◌∙◌, arith, rules}
+use Rattle.rules.specs.RunState.{distinct}
+use Rattle.stepping.proofs.Lists.{take_both}
 use Rattle.stepping.proofs.Scan.{outer_turn, inner_turn, outer_end, inner_end}
 use Rattle.stepping.proofs.acceptance.distinct.Goals as goal
+use Rattle.stepping.proofs.acceptance.distinct.Goals.{then-count-lt-ROWS, else-count-lt-ROWS}
+
+pub first-init : goal.first-init
+first-init c =
+    elim c.if-count-lt-ROWS.branch [
+      | then-count-lt-ROWS w ↦ (omega arith, omega arith, search rules, rw w.used-is refl)
+      | else-count-lt-ROWS w ↦
+          (omega arith, omega arith, search rules, ap distinct (take_both c.args.ids c.if-count-lt-ROWS.used c.args.count (omega arith) (omega arith)))
+    ]
 
 pub second-init : goal.second-init
 second-init c =

@@ -1,15 +1,25 @@
 // Runs the numbers of document 01 and prints the answers, a line each; the file `stdout` beside src/ has what the paper says.
 #![tactic(auto)]
 
+mod failed;
 mod planning_cases;
 mod reading;
 mod run_cases;
 mod state_cases;
-mod titles;
 
-fn main() {
-    reading::cases();
-    planning_cases::cases();
-    run_cases::cases();
-    state_cases::cases();
+use failed::Failed;
+
+fn cases(rt: &impl Print) -> Result<(), Failed> {
+    reading::cases(rt)?;
+    planning_cases::cases(rt)?;
+    run_cases::cases(rt)?;
+    state_cases::cases(rt)
+}
+
+// A write that failed is let go, as in the other programs.
+fn main(rt: HostRuntime) {
+    match cases(&rt) {
+        Ok(()) | Err(Failed::Unwritten(_)) => {}
+        Err(Failed::Refused(refused)) => printing::tell(&rt, refused),
+    }
 }

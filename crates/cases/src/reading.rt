@@ -1,48 +1,39 @@
 // Document 01's numbers for the stored table and the choice, and request 7's form two of it.
-use crate::titles::say;
-use rules::{Form, Verdict};
+use crate::failed::Failed;
+use rules::Form;
 
-// One stored table: what it is, the verdict, and how many rows came back.
-fn read_case(title: usize, bytes: &[u8]) {
-    say(title);
-    say(0);
-    let answer = tables::read(bytes);
-    let verdict = answer.verdict;
-    match verdict {
-        Verdict::Accepted => say(1), // accepted
-        Verdict::Refused(refusal, place) => printing::refused(refusal, place),
+// One stored table: what it is, the answer, and how many rows came back.
+fn read_case(rt: &impl Print, title: &str, bytes: &[u8]) -> Result<(), Failed> {
+    match tables::read(bytes) {
+        Ok(stored) => println!(rt; "{title}: accepted, rows {}", stored.table.count)?,
+        Err(refused) => println!(rt; "{title}: {refused}, rows 0")?,
     }
-    say(2); // , rows
-    printing::number(answer.stored.table.count as u64);
-    printing::byte(b'\n');
-}
-
-// A byte as a wider number.
-fn wide(x: u8) -> u64 {
-    x as u64
+    Ok(())
 }
 
 // One choice: how many bytes it holds, and the first of them.
-fn choice_case<'a>(title: usize, site: &'a [u8], factory: &'a [u8]) {
-    say(title);
-    say(0);
+fn choice_case<'a>(
+    rt: &impl Print,
+    title: &str,
+    site: &'a [u8],
+    factory: &'a [u8],
+) -> Result<(), Failed> {
     let part = tables::choose(site, factory);
-    printing::number(part.len() as u64);
-    say(3); // bytes
-    if 0 < part.len() {
-        say(4); // from
-        printing::number(wide(part[0]));
+    print!(rt; "{title}: {} bytes", part.len())?;
+    if let Some(first) = part.first() {
+        print!(rt; " from {first}")?;
     }
-    printing::byte(b'\n');
+    println!(rt; "")?;
+    Ok(())
 }
 
 // The bytes there are: checks 1 to 3.
-fn lengths() {
-    read_case(5, &[0u8; 0]); // no bytes
-    read_case(6, &[0u8; 7]); // 7 bytes
-    read_case(7, &[0u8; 8]); // 8 zero bytes
-    read_case(8, &[0u8; 4096]); // 4096 zero bytes
-    read_case(9, &[0u8; 4097]); // 4097 zero bytes
+fn lengths(rt: &impl Print) -> Result<(), Failed> {
+    read_case(rt, "no bytes", &[])?;
+    read_case(rt, "7 bytes", &[0u8; 7])?;
+    read_case(rt, "8 zero bytes", &[0u8; 8])?;
+    read_case(rt, "4096 zero bytes", &[0u8; 4096])?;
+    read_case(rt, "4097 zero bytes", &[0u8; 4097])
 }
 
 // A trailer alone, with this count: its low and its high byte.
@@ -51,77 +42,55 @@ fn trailer(low: u8, high: u8) -> [u8; 8] {
 }
 
 // Check 4.
-fn counts() {
-    read_case(10, &trailer(0, 0)); // count 0
-    read_case(11, &trailer(65, 0)); // count 65
-    read_case(12, &trailer(255, 255)); // count 65535
+fn counts(rt: &impl Print) -> Result<(), Failed> {
+    read_case(rt, "count 0", &trailer(0, 0))?;
+    read_case(rt, "count 65", &trailer(65, 0))?;
+    read_case(rt, "count 65535", &trailer(255, 255))
 }
 
 // The record (1, 1, 4) and a trailer with this distance: its first byte and the three others.
 fn one_record(first: u8, others: u8) -> [u8; 20] {
-    let mut bytes = [0u8; 20];
-    bytes[0] = 1;
-    bytes[4] = 1;
-    bytes[8] = 4;
-    bytes[12] = first;
-    bytes[13] = others;
-    bytes[14] = others;
-    bytes[15] = others;
-    bytes[16] = 1;
-    bytes[18] = b'M';
-    bytes[19] = b'L';
-    bytes
+    [
+        1, 0, 0, 0, 1, 0, 0, 0, 4, 0, 0, 0, first, others, others, others, 1, 0, b'M', b'L',
+    ]
 }
 
 // The same with two bytes before the record and one behind it.
 fn with_gaps() -> [u8; 23] {
-    let mut bytes = [0u8; 23];
-    bytes[0] = 9;
-    bytes[1] = 9;
-    bytes[2] = 1;
-    bytes[6] = 1;
-    bytes[10] = 4;
-    bytes[14] = 9;
-    bytes[15] = 21;
-    bytes[19] = 1;
-    bytes[21] = b'M';
-    bytes[22] = b'L';
-    bytes
+    [
+        9, 9, 1, 0, 0, 0, 1, 0, 0, 0, 4, 0, 0, 0, 9, 21, 0, 0, 0, 1, 0, b'M', b'L',
+    ]
 }
 
 // Checks 5 and 15.
-fn distances() {
-    read_case(13, &one_record(19, 0)); // one record and distance 19
-    read_case(14, &one_record(20, 0)); // distance 20 in 20 bytes
-    read_case(15, &one_record(21, 0)); // distance 21 in 20 bytes
-    read_case(16, &one_record(255, 255)); // distance 4294967295
-    read_case(17, &with_gaps()); // a gap before the record and one behind it
+fn distances(rt: &impl Print) -> Result<(), Failed> {
+    read_case(rt, "one record and distance 19", &one_record(19, 0))?;
+    read_case(rt, "distance 20 in 20 bytes", &one_record(20, 0))?;
+    read_case(rt, "distance 21 in 20 bytes", &one_record(21, 0))?;
+    read_case(rt, "distance 4294967295", &one_record(255, 255))?;
+    read_case(
+        rt,
+        "a gap before the record and one behind it",
+        &with_gaps(),
+    )
 }
 
 // The records (1, 1, 4), (2, 1, 4) and a trailer.
 fn two_records() -> [u8; 32] {
-    let mut bytes = [0u8; 32];
-    bytes[0] = 1;
-    bytes[4] = 1;
-    bytes[8] = 4;
-    bytes[12] = 2;
-    bytes[16] = 1;
-    bytes[20] = 4;
-    bytes[24] = 32;
-    bytes[28] = 2;
-    bytes[30] = b'M';
-    bytes[31] = b'L';
-    bytes
+    [
+        1, 0, 0, 0, 1, 0, 0, 0, 4, 0, 0, 0, 2, 0, 0, 0, 1, 0, 0, 0, 4, 0, 0, 0, 32, 0, 0, 0, 2, 0,
+        b'M', b'L',
+    ]
 }
 
 // Check 6 at the second record, ahead of 8 and behind 7; and the largest hold. The spare field has the hold less one.
-fn holds() {
+fn holds(rt: &impl Print) -> Result<(), Failed> {
     let mut hold = two_records();
     hold[14] = 1;
     hold[20] = 1;
-    read_case(18, &hold); // hold 2 and cost 1 in the second record
+    read_case(rt, "hold 2 and cost 1 in the second record", &hold)?;
     hold[16] = 0;
-    read_case(82, &hold); // hold 2 and cost 0 in the second record
+    read_case(rt, "hold 2 and cost 0 in the second record", &hold)?;
     let mut large = one_record(20, 0);
     large[2] = 255;
     large[3] = 255;
@@ -129,123 +98,95 @@ fn holds() {
     large[6] = 1;
     large[8] = 0;
     large[10] = 2;
-    read_case(83, &large); // hold 65536
+    read_case(rt, "hold 65536", &large)
 }
 
 // Checks 7 and 8, each at the second record, and with what would be refused later there as well.
-fn records() {
+fn records(rt: &impl Print) -> Result<(), Failed> {
     let mut cost = two_records();
     cost[16] = 0;
     cost[20] = 1;
-    read_case(19, &cost); // cost 0 in the second record
+    read_case(rt, "cost 0 in the second record", &cost)?;
     cost[16] = 0x41;
     cost[17] = 0x42;
     cost[18] = 0x0F;
     cost[20] = 4;
-    read_case(20, &cost); // cost 1000001 in the second record
+    read_case(rt, "cost 1000001 in the second record", &cost)?;
     let mut validity = two_records();
     validity[12] = 1;
     validity[20] = 1;
-    read_case(21, &validity); // validity 1 in the second record
+    read_case(rt, "validity 1 in the second record", &validity)
 }
 
 // Check 9: the records (1, 1, 4), (2, 1, 4), (1, 1, 4).
-fn repeated() {
-    let mut bytes = [0u8; 44];
-    bytes[0] = 1;
-    bytes[4] = 1;
-    bytes[8] = 4;
-    bytes[12] = 2;
-    bytes[16] = 1;
-    bytes[20] = 4;
-    bytes[24] = 1;
-    bytes[28] = 1;
-    bytes[32] = 4;
-    bytes[36] = 44;
-    bytes[40] = 3;
-    bytes[42] = b'M';
-    bytes[43] = b'L';
-    read_case(22, &bytes); // equal ids in the first and the third record
+fn repeated(rt: &impl Print) -> Result<(), Failed> {
+    let bytes = [
+        1, 0, 0, 0, 1, 0, 0, 0, 4, 0, 0, 0, 2, 0, 0, 0, 1, 0, 0, 0, 4, 0, 0, 0, 1, 0, 0, 0, 1, 0,
+        0, 0, 4, 0, 0, 0, 44, 0, 0, 0, 3, 0, b'M', b'L',
+    ];
+    read_case(rt, "equal ids in the first and the third record", &bytes)
 }
 
 // The record (7, 1, 4) behind a byte that is not read.
 fn other_record() -> [u8; 21] {
-    let mut bytes = [0u8; 21];
-    bytes[0] = 9;
-    bytes[1] = 7;
-    bytes[5] = 1;
-    bytes[9] = 4;
-    bytes[13] = 20;
-    bytes[17] = 1;
-    bytes[19] = b'M';
-    bytes[20] = b'L';
-    bytes
+    [
+        9, 7, 0, 0, 0, 1, 0, 0, 0, 4, 0, 0, 0, 20, 0, 0, 0, 1, 0, b'M', b'L',
+    ]
 }
 
 // The choice: both tables read, only one of them, none.
-fn choices() {
+fn choices(rt: &impl Print) -> Result<(), Failed> {
     let good = one_record(20, 0);
     let other = other_record();
     let mut bad = one_record(20, 0);
     bad[3] = 1;
-    choice_case(23, &good, &other); // site and factory read
-    choice_case(24, &bad, &other); // only the factory reads
-    choice_case(25, &other, &bad); // only the site reads
-    choice_case(26, &bad, &[0u8; 7]); // none reads
+    choice_case(rt, "site and factory read", &good, &other)?;
+    choice_case(rt, "only the factory reads", &bad, &other)?;
+    choice_case(rt, "only the site reads", &other, &bad)?;
+    choice_case(rt, "none reads", &bad, &[0u8; 7])
 }
 
 // The record (1, 1, 4) of form two with first release 2, and its trailer.
 fn one_of_two() -> [u8; 24] {
-    let mut bytes = [0u8; 24];
-    bytes[0] = 1;
-    bytes[4] = 1;
-    bytes[8] = 4;
-    bytes[12] = 2;
-    bytes[16] = 24;
-    bytes[20] = 1;
-    bytes[22] = b'M';
-    bytes[23] = b'2';
-    bytes
+    [
+        1, 0, 0, 0, 1, 0, 0, 0, 4, 0, 0, 0, 2, 0, 0, 0, 24, 0, 0, 0, 1, 0, b'M', b'2',
+    ]
 }
 
 // One conversion: how many bytes it gives, or the refusal.
-fn convert_case(title: usize, bytes: &[u8], from: Form) {
-    say(title);
-    say(0);
-    let mut buffer = [0u8; 24];
-    let written = tables::convert(bytes, from, &mut buffer);
-    let verdict = written.verdict;
-    match verdict {
-        Verdict::Accepted => {
-            printing::number(written.size as u64);
-            say(3); // bytes
-        }
-        Verdict::Refused(refusal, place) => printing::refused(refusal, place),
+fn convert_case(rt: &impl Print, title: &str, bytes: &[u8], from: Form) -> Result<(), Failed> {
+    match tables::convert(bytes, Some(from), &mut [0u8; 24]) {
+        Ok(size) => println!(rt; "{title}: {size} bytes")?,
+        Err(refused) => println!(rt; "{title}: {refused}")?,
     }
-    printing::byte(b'\n');
+    Ok(())
 }
 
 // Form two: read, chosen and converted; and form one under its mark.
-fn forms() {
+fn forms(rt: &impl Print) -> Result<(), Failed> {
     let one = one_record(20, 0);
     let two = one_of_two();
     let mut mixed = one_record(20, 0);
     mixed[19] = b'2';
-    read_case(89, &two); // form two, one record and distance 24
-    read_case(90, &mixed); // a record of form one under the mark of form two
-    choice_case(91, &two, &one); // the site table in form two
-    convert_case(92, &one, Form::One); // form one to form two
-    convert_case(93, &two, Form::Two); // form two to form one, first release 2
-    convert_case(94, &two, Form::One); // form two converted as form one
+    read_case(rt, "form two, one record and distance 24", &two)?;
+    read_case(
+        rt,
+        "a record of form one under the mark of form two",
+        &mixed,
+    )?;
+    choice_case(rt, "the site table in form two", &two, &one)?;
+    convert_case(rt, "form one to form two", &one, Form::One)?;
+    convert_case(rt, "form two to form one, first release 2", &two, Form::Two)?;
+    convert_case(rt, "form two converted as form one", &two, Form::One)
 }
 
-pub(crate) fn cases() {
-    lengths();
-    counts();
-    distances();
-    holds();
-    records();
-    repeated();
-    choices();
-    forms();
+pub(crate) fn cases(rt: &impl Print) -> Result<(), Failed> {
+    lengths(rt)?;
+    counts(rt)?;
+    distances(rt)?;
+    holds(rt)?;
+    records(rt)?;
+    repeated(rt)?;
+    choices(rt)?;
+    forms(rt)
 }

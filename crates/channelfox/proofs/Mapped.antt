@@ -1,59 +1,40 @@
--- An array filled by one function from the rows of another, and a test of each row, from the front. Assumes nothing.
-use Prim.Native.Nat.{ℕ, ◌+◌, ◌≤◌, ◌<◌}
-use mathlib.Core.Path.{◌≡◌, refl, sym, ap, ◌∙◌}
-use mathlib.Core.Bool.{Bool, true, ◌&&◌}
-use mathlib.Core.List.{List, map, map-append}
+-- An array whose elements are made by one function from those of another, and a test of each row. Assumes nothing.
+use Rattle.std.proofs.Common.{ℕ, ◌≡◌, ◌<◌, ◌≤◌, ◌+◌, sym, ◌∙◌, take, Bool, true, false, cond, ◌&&◌, ap, List, [], ◌∷◌, map, length, get_or, refl, arith}
+use mir.Val.{bool_byte}
 use native.Mathlib.Numerals.{add-one}
-use native.Mathlib.Omega.{arith}
-use lib.ListN.{length, take, drop, get_or, set, length-set, drop_of_length-le}
-use lib.Seq.{take-suc, take-suc-set, take_all, drop-cons}
+use mathlib.Core.List.{map-append}
+use lib.ListN.{set, length-set}
+use lib.Seq.{take-suc, take-suc-set, take_all}
+use Rattle.std.specs.List.{list_all}
 use Rattle.channelfox.specs.declared.CRunRow.{CRunRow}
 use Rattle.channelfox.specs.Forms.{is_form, every_form}
-use Rattle.rules.proofs.Tests.{and_assoc, and_true}
 
--- the first i rows are done, of 64
-pub record Done {A B : Type 0} (f : A → B) (from : List A) (to : List B) (i : ℕ) : Type 0 where
-  pub long : length from ≡ 64
-  pub room : length to ≡ 64
-  pub up_to : i ≤ 64
-  pub same : take i to ≡ map f (take i from)
+-- a bool as a number
+pub bit : (b : Bool) → bool_byte b ≡ cond b 1 0
+bit true = refl
+bit false = refl
 
-module _ {A B : Type 0} {f : A → B} where
-  pub done_none : {from : List A} {to : List B} → length from ≡ 64 → length to ≡ 64 → Done f from to 0
-  done_none h k = record { long = h; room = k; up_to = omega arith; same = refl }
+-- the first i elements are made
+pub record Made {A B : Type 0} (f : A → B) (xs : List A) (ys : List B) (i : ℕ) : Type 0 where
+  pub long : length xs ≡ 64
+  pub room : length ys ≡ 64
+  pub same : take i ys ≡ map f (take i xs)
 
-  pub done_next : {from : List A} {to : List B} {i : ℕ} (d : A) (v : B) → Done f from to i → i < 64 → v ≡ f (get_or from i d) → Done f from (set to i v) (i + 1)
-  done_next {from} {to} {i} d v g h e =
-      let l : i < length from = omega (arith, g.long) in
-      let m : i < length to = omega (arith, g.room) in
+module _ {A B : Type 0} {f : A → B} {xs : List A} {ys : List B} where
+  pub made_next : {i : ℕ} (d : A) → Made f xs ys i → i < 64 → Made f xs (set ys i (f (get_or xs i d))) (i + 1)
+  made_next {i} d m h =
+      let v = f (get_or xs i d) in
       record {
-        long = g.long;
-        room = length-set to i v ∙ g.room;
-        up_to = omega arith;
-        same = rw (add-one, take-suc-set to i v m, take-suc from i d l, map-append, g.same, e);
+        long = m.long;
+        room = length-set ys i v ∙ m.room;
+        same = rw (add-one, take-suc-set ys i v (omega (arith, h, m.long, m.room)), take-suc xs i d (omega (arith, h, m.long)), map-append, m.same);
       }
 
-  pub done_all : {from : List A} {to : List B} {i : ℕ} → Done f from to i → 64 ≤ i → to ≡ map f from
-  done_all {from} {to} {i} g h =
-      sym (take_all i to (omega (arith, g.room))) ∙ (g.same ∙ ap (map f) (take_all i from (omega (arith, g.long))))
+  pub made_all : {i : ℕ} → Made f xs ys i → 64 ≤ i → ys ≡ map f xs
+  made_all {i} m h = sym (take_all i ys (omega (arith, h, m.long, m.room))) ∙ (m.same ∙ ap (map f) (take_all i xs (omega (arith, h, m.long))))
 
--- the test of the rows, those before i being in `ok`
-pub record Tested (rows : List CRunRow) (ok : Bool) (i : ℕ) : Type 0 where
-  pub long : length rows ≡ 64
-  pub up_to : i ≤ 64
-  pub same : ok && every_form (drop i rows) ≡ every_form rows
-
-pub tested_none : {rows : List CRunRow} → length rows ≡ 64 → Tested rows true 0
-tested_none h = record { long = h; up_to = omega arith; same = refl }
-
-pub tested_next : {rows : List CRunRow} {ok : Bool} {i : ℕ} (d : CRunRow) (b : Bool) → Tested rows ok i → i < 64 → b ≡ is_form (get_or rows i d) → Tested rows (ok && b) (i + 1)
+-- the walk of `all` is the definition's
+pub each_form : (rows : List CRunRow) → list_all is_form rows ≡ every_form rows
 unfolding every_form
-tested_next {rows} {ok} {i} d b g h e =
-    let l : i < length rows = omega (arith, g.long) in
-    record { long = g.long; up_to = omega arith; same = rw (e, add-one, and_assoc ok) (rw (drop-cons rows i d l) at g.same) }
-
-pub tested_all : {rows : List CRunRow} {ok : Bool} {i : ℕ} → Tested rows ok i → 64 ≤ i → ok ≡ every_form rows
-unfolding every_form
-tested_all {rows} {ok} {i} g h =
-    let n : length rows ≤ i = omega (arith, g.long) in
-    sym (and_true ok) ∙ (rw (drop_of_length-le rows n) at g.same)
+each_form [] = refl
+each_form (c ∷ cs) = ap (λ (b : Bool). is_form c && b) (each_form cs)

@@ -1,26 +1,19 @@
 -- The C forms of answers, stored tables and runs. Assumes nothing.
 -- Enums and bools are numbers in C: a verdict is number and place (0 and 0 where accepted), a stored form its number, a stored value its
 -- kind and what it holds.
-use Rattle.std.specs.Prelude.{ℕ, Bool, true, cond, not, ◌&&◌, ◌||◌, List, [], ◌∷◌, map, eqb, leb}
+use Rattle.std.specs.Prelude.{ℕ, Bool, true, cond, not, ◌&&◌, ◌||◌, List, [], ◌∷◌, map, eqb, leb, Option, Some, None}
 use Rattle.rules.specs.declared.Form.{Form}
-use Rattle.rules.specs.declared.Form.TheVariants.{NoForm, One, Two}
+use Rattle.rules.specs.declared.Form.TheVariants.{One, Two}
 use Rattle.rules.specs.declared.Part.{Part}
-use Rattle.rules.specs.declared.Planned.{Planned}
-use Rattle.rules.specs.declared.ReadStored.{ReadStored}
-use Rattle.rules.specs.declared.ReadTable.{ReadTable}
-use Rattle.rules.specs.declared.Reading.{Reading}
-use Rattle.rules.specs.declared.Reading.TheVariants as reading
+use Rattle.rules.specs.Answers.{Planned, ReadStored, ReadTable, Started, Stepped, Verdict, Refused, Written}
+use Rattle.rules.specs.Readings.{Reading}
+use Rattle.rules.specs.Readings as reading
 use Rattle.rules.specs.declared.Run.{Run}
 use Rattle.rules.specs.declared.RunRow.{RunRow}
-use Rattle.rules.specs.declared.Started.{Started}
-use Rattle.rules.specs.declared.Stepped.{Stepped}
 use Rattle.rules.specs.declared.Stored.{Stored}
 use Rattle.rules.specs.declared.Stored.TheVariants.{Empty, Held, Lapsed}
 use Rattle.rules.specs.declared.StoredTable.{StoredTable}
-use Rattle.rules.specs.declared.Verdict.{Verdict}
 use Rattle.rules.specs.declared.Refusal.TheVariants.{NotRunState}
-use Rattle.rules.specs.declared.Verdict.TheVariants.{Refused}
-use Rattle.rules.specs.declared.Written.{Written}
 use Rattle.rules.specs.Refusals.{Told, told, reading_told}
 use Rattle.rules.specs.Deadlines.{on_accepted, plan_of}
 use Rattle.rules.specs.Run.{stepped_of, advanced_of, reading_of}
@@ -48,13 +41,13 @@ abbrev pub read_form : ReadTable → CReadAnswer
 read_form a = record { verdict = verdict_form a.verdict; table = a.table }
 
 -- a stored form is a number, and each other number is no form
-abbrev pub form_number : Form → ℕ
-form_number NoForm = 0
-form_number One = 1
-form_number Two = 2
+abbrev pub form_number : Option Form → ℕ
+form_number None = 0
+form_number (Some One) = 1
+form_number (Some Two) = 2
 
-abbrev pub form_numbered : ℕ → Form
-form_numbered n = cond (eqb n 1) One (cond (eqb n 2) Two NoForm)
+abbrev pub form_numbered : ℕ → Option Form
+form_numbered n = cond (eqb n 1) (Some One) (cond (eqb n 2) (Some Two) None)
 
 abbrev pub stored_table_form : StoredTable → CStored
 stored_table_form s = record { form = form_number s.form; table = s.table; firsts = s.firsts }

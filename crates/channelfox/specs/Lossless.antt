@@ -1,8 +1,8 @@
 -- The way to the C form of a stored table or a run and back loses nothing, and a refused run comes back exactly as it came in. Assumes nothing.
-use Rattle.std.specs.Prelude.{ℕ, zero, suc, ◌≡◌, refl, Bool, true, false, cond, not, ◌&&◌, ◌||◌, List, [], ◌∷◌, map, eqb, leb}
+use Rattle.std.specs.Prelude.{ℕ, zero, suc, ◌≡◌, refl, Bool, true, false, cond, not, ◌&&◌, ◌||◌, List, [], ◌∷◌, map, eqb, leb, Option, Some, None}
 use Rattle.std.proofs.Common.{sym, true≢false, arith, leb-true, eqb-true}
 use Rattle.rules.specs.declared.Form.{Form}
-use Rattle.rules.specs.declared.Form.TheVariants.{NoForm, One, Two}
+use Rattle.rules.specs.declared.Form.TheVariants.{One, Two}
 use Rattle.rules.specs.declared.Run.{Run}
 use Rattle.rules.specs.declared.RunRow.{RunRow}
 use Rattle.rules.specs.declared.Stored.{Stored}
@@ -16,10 +16,10 @@ use Rattle.channelfox.specs.Forms.{form_number, form_numbered, stored_table_form
 use Rattle.rules.proofs.Tests.{both_true}
 
 -- a stored form, to C and back
-pub form_there_and_back : (f : Form) → form_numbered (form_number f) ≡ f
-form_there_and_back NoForm = refl
-form_there_and_back One = refl
-form_there_and_back Two = refl
+pub form_there_and_back : (f : Option Form) → form_numbered (form_number f) ≡ f
+form_there_and_back None = refl
+form_there_and_back (Some One) = refl
+form_there_and_back (Some Two) = refl
 
 -- what stored bytes hold, to C and back
 pub stored_table_there_and_back : (s : StoredTable) → stored_table (stored_table_form s) ≡ s

@@ -2,172 +2,162 @@
 // side with each object's share of the core, or which of the two refuses and where; why ours does, on standard error.
 #![tactic(auto)]
 
-use printing::{STDIN_FILENO, end, put, put_blanks, put_number, put_padded, put_text};
-use rules::{ObjectRow, Plan, PlanRow, Table, Verdict};
+use printing::{Ending, Input, Line};
+use rules::{ObjectRow, Plan, PlanRow, Refused, Table};
 
 // An object's share of the core in hundredths of a per cent, rounded up.
-fn share(row: PlanRow) -> u64 {
+fn share(row: &PlanRow) -> u64 {
     if row.period == 0 {
         return 0;
     }
-    let period = row.period as u64;
-    let parts = row.cost as u64 * 10000;
-    (parts + (period - 1)) / period
+    (u64::from(row.cost) * 10000).div_ceil(u64::from(row.period))
 }
 
-// The shares of all objects of a plan; rows beyond the count have none.
-fn total(plan: Plan) -> u64 {
-    let mut sum: u64 = 0;
-    for i in 0..64usize {
-        let row = plan.rows[i];
-        sum = std::num::wrapping_add_u64(sum, share(row));
-    }
-    sum
+// The shares of all objects of a plan.
+fn total(plan: &Plan) -> u64 {
+    plan.used()
+        .iter()
+        .map(share)
+        .fold(0, |sum: u64, one| sum.wrapping_add(one))
 }
 
 // Hundredths of a per cent, as 12.34%, in 10 columns.
-fn put_share(line: &mut [u8; 160], at: usize, hundredths: u64) -> usize {
-    let whole = put_padded(line, at, hundredths / 100, 6);
-    let point = put(line, whole, b'.');
-    let tenth = put_number(line, point, hundredths / 10 % 10);
-    let last = put_number(line, tenth, hundredths % 10);
-    put(line, last, b'%')
+fn put_share(line: &mut Line, hundredths: u64) {
+    line.padded(hundredths / 100, 6);
+    line.put(b'.');
+    line.number(hundredths / 10 % 10);
+    line.number(hundredths % 10);
+    line.put(b'%');
 }
 
-// Deadline, period and share of one plan; blanks where it has no such row.
-fn put_planned(line: &mut [u8; 160], at: usize, accepted: bool, row: PlanRow) -> usize {
-    if accepted {
-        let deadline = put_padded(line, at, row.deadline as u64, 10);
-        let period = put_padded(line, deadline, row.period as u64, 9);
-        put_share(line, period, share(row))
-    } else {
-        put_blanks(line, at, 29)
+// Deadline, period and share of one plan; blanks where there is no plan.
+fn put_planned(line: &mut Line, row: Option<&PlanRow>) {
+    match row {
+        Some(row) => {
+            line.padded(u64::from(row.deadline), 10);
+            line.padded(u64::from(row.period), 9);
+            put_share(line, share(row));
+        }
+        None => line.blanks(29),
     }
 }
 
 // One object in both plans.
-fn print_row(object: ObjectRow, fits: bool, classic: PlanRow, planned: bool, ours: PlanRow) {
-    let mut line = [b' '; 160];
-    let id = put_padded(&mut line, 0, object.id as u64, 6);
-    let cost = put_padded(&mut line, id, object.cost as u64, 9);
-    let validity = put_padded(&mut line, cost, object.validity as u64, 9);
-    let half = put_planned(&mut line, validity, fits, classic);
-    let less = put_planned(&mut line, half, planned, ours);
-    end(&mut line, less);
+fn print_row(
+    rt: &impl Print,
+    object: &ObjectRow,
+    classic: Option<&PlanRow>,
+    ours: Option<&PlanRow>,
+) -> std::io::Result<()> {
+    let mut line = Line::new();
+    line.padded(u64::from(object.id), 6);
+    line.padded(u64::from(object.cost), 9);
+    line.padded(u64::from(object.validity), 9);
+    put_planned(&mut line, classic);
+    put_planned(&mut line, ours);
+    line.end(rt)
 }
 
-// The total of a plan, under its shares.
-fn put_total(line: &mut [u8; 160], at: usize, accepted: bool, plan: Plan) -> usize {
-    if accepted {
-        let blanks = put_blanks(line, at, 19);
-        put_share(line, blanks, total(plan))
-    } else {
-        put_blanks(line, at, 29)
+// The total of a plan, under its shares; blanks where there is no plan.
+fn put_total(line: &mut Line, plan: Option<&Plan>) {
+    match plan {
+        Some(plan) => {
+            line.blanks(19);
+            put_share(line, total(plan));
+        }
+        None => line.blanks(29),
     }
 }
 
-fn print_totals(fits: bool, classic: Plan, planned: bool, ours: Plan) {
-    let mut line = [b' '; 160];
-    let name = put_text(&mut line, 0, b" total");
-    let blanks = put_blanks(&mut line, name, 18);
-    let half = put_total(&mut line, blanks, fits, classic);
-    let less = put_total(&mut line, half, planned, ours);
-    end(&mut line, less);
+fn print_totals(
+    rt: &impl Print,
+    classic: Option<&Plan>,
+    ours: Option<&Plan>,
+) -> std::io::Result<()> {
+    let mut line = Line::new();
+    line.text(b" total");
+    line.blanks(18);
+    put_total(&mut line, classic);
+    put_total(&mut line, ours);
+    line.end(rt)
 }
 
 // The objects in priority order, in both plans.
-fn print_plans(ranked: Table, fits: bool, classic: Plan, planned: bool, ours: Plan) {
-    printing::text(b"                                    Half-Half                    More-Less\n");
-    printing::text(
-        b"    id     cost validity  deadline   period     share  deadline   period     share\n",
-    );
-    for i in 0..64usize {
-        if i < ranked.count {
-            let object = ranked.rows[i];
-            let half = classic.rows[i];
-            let less = ours.rows[i];
-            print_row(object, fits, half, planned, less);
-        }
+fn print_plans(
+    rt: &impl Print,
+    ranked: &Table,
+    classic: Option<&Plan>,
+    ours: Option<&Plan>,
+) -> std::io::Result<()> {
+    println!(rt; "                                    Half-Half                    More-Less")?;
+    println!(rt;
+        "    id     cost validity  deadline   period     share  deadline   period     share"
+    )?;
+    for (at, object) in ranked.used().iter().enumerate() {
+        let half = classic.and_then(|plan| plan.used().get(at));
+        let less = ours.and_then(|plan| plan.used().get(at));
+        print_row(rt, object, half, less)?;
     }
-    print_totals(fits, classic, planned, ours);
+    print_totals(rt, classic, ours)
 }
 
-fn accepts(verdict: Verdict) -> bool {
-    match verdict {
-        Verdict::Accepted => true,
-        Verdict::Refused(_, _) => false,
+// Which object a plan refuses.
+fn print_refusal(
+    rt: &impl Print,
+    name: &str,
+    refused: Refused,
+    ranked: &Table,
+) -> std::io::Result<()> {
+    print!(rt; "{name}: {refused}")?;
+    if let Some(row) = ranked.used().get(refused.place) {
+        print!(rt; ", the object with id {}", row.id)?;
     }
+    println!(rt; "")
 }
 
-// Which object a plan refuses, where it does.
-fn print_refusal(name: &[u8], verdict: Verdict, ranked: Table) {
-    match verdict {
-        Verdict::Accepted => {}
-        Verdict::Refused(refusal, place) => {
-            printing::text(name);
-            printing::text(b": ");
-            printing::refused(refusal, place);
-            if place < 64 {
-                let row = ranked.rows[place];
-                printing::text(b", the object with id ");
-                printing::number(row.id as u64);
-            }
-            printing::byte(b'\n');
-        }
+// What each of the plans refuses, and both side by side where there is one.
+fn print_comparison(
+    rt: &impl Print,
+    ranked: &Table,
+    classic: &Result<Plan, Refused>,
+    ours: &Result<Plan, Refused>,
+) -> std::io::Result<()> {
+    if let Err(refused) = classic {
+        print_refusal(rt, "Half-Half", *refused, ranked)?;
     }
+    if let Err(refused) = ours {
+        print_refusal(rt, "More-Less", *refused, ranked)?;
+    }
+    if classic.is_ok() || ours.is_ok() {
+        print_plans(rt, ranked, classic.as_ref().ok(), ours.as_ref().ok())?;
+    }
+    Ok(())
 }
 
-// Both plans of a table that reads.
-fn compare(table: Table) {
-    let answer = planning::ranked(table);
-    let ranked = answer.table;
-    let half = planning::plan_classic(table);
-    let less = planning::plan_table(table);
-    let half_verdict = half.verdict;
-    let less_verdict = less.verdict;
-    let fits = accepts(half_verdict);
-    let planned = accepts(less_verdict);
-    print_refusal(b"Half-Half", half_verdict, ranked);
-    print_refusal(b"More-Less", less_verdict, ranked);
-    if fits | planned {
-        let classic = half.plan;
-        let ours = less.plan;
-        print_plans(ranked, fits, classic, planned, ours);
-    }
-    conclude(table, less_verdict);
-}
-
-// The comparison is done, and refused where our plan refuses: a table that fits the classic one fits ours.
-fn conclude(table: Table, verdict: Verdict) {
-    match verdict {
-        Verdict::Accepted => printing::ended(0),
-        Verdict::Refused(_, place) => {
-            printing::explain_plan(table, place);
-            printing::ended(1);
+// Both plans of a table that reads. The comparison is refused where our plan refuses: a table that fits the classic one fits ours.
+fn compare(rt: &(impl Print + Eprint), table: Table) -> Ending {
+    let ranked = planning::ranked(table).unwrap_or(Table::empty());
+    let classic = planning::plan_classic(table);
+    let ours = planning::plan_table(table);
+    printing::ignored(print_comparison(rt, &ranked, &classic, &ours));
+    match ours {
+        Ok(_) => Ending::Done,
+        Err(refused) => {
+            printing::explain_plan(rt, table, refused);
+            Ending::Refused
         }
     }
 }
 
-fn answer(bytes: &[u8]) {
-    let read = tables::read(bytes);
-    let verdict = read.verdict;
-    match verdict {
-        Verdict::Refused(refusal, place) => {
-            printing::refused_line(refusal, place);
-            printing::explain_table(bytes, refusal, place);
-            printing::ended(1);
-        }
-        Verdict::Accepted => {
-            let stored = read.stored;
-            let table = stored.table;
-            compare(table);
-        }
+// The answer to the bytes of a stored table.
+fn answer(rt: &(impl Print + Eprint), bytes: &[u8]) -> Ending {
+    match tables::read(bytes) {
+        Ok(stored) => compare(rt, stored.table),
+        Err(refused) => printing::refuse_table(rt, bytes, refused),
     }
 }
 
-// One byte more than a table may have is enough to see that there are too many.
-fn main() {
-    let mut bytes = [0u8; 4097];
-    let n = io::read_full(STDIN_FILENO, &mut bytes);
-    answer(&bytes[..n]);
+fn main(rt: HostRuntime) {
+    let input = Input::read();
+    printing::ended(answer(&rt, input.bytes()));
 }

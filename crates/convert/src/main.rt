@@ -2,61 +2,37 @@
 // went stands on standard error, and so does a refusal, as "refused N at K" and why; then nothing is written.
 #![tactic(auto)]
 
-use printing::STDIN_FILENO;
-use rules::{Form, Refusal, Verdict};
-
-fn refuse(bytes: &[u8], refusal: Refusal, place: usize) {
-    printing::complaint(refusal, place);
-    printing::explain_table(bytes, refusal, place);
-    printing::ended(1);
-}
+use printing::{Ending, Input};
+use rules::{Form, Refused};
 
 // Which way it went.
-fn say_way(from: Form) {
-    let way = match from {
-        Form::NoForm | Form::One => 0,
-        Form::Two => 1,
-    };
-    printing::complain(
-        b"form one to form two, first releases 0\n\
-form two to form one, first releases left out: all were 0\n",
-        way,
-    );
+fn say_way(rt: &impl Eprint, from: Option<Form>) -> std::io::Result<()> {
+    if from == Some(Form::Two) {
+        eprintln!(rt; "form two to form one, first releases left out: all were 0")
+    } else {
+        eprintln!(rt; "form one to form two, first releases 0")
+    }
 }
 
-// A table that reads, in the other form. 64 records of form two and the trailer are 1032 bytes.
-fn convert(bytes: &[u8], from: Form) {
+// Writes a table that reads in the other form than it is of. 64 records of form two and the trailer are 1032 bytes.
+fn convert(rt: &(impl Print + Eprint), bytes: &[u8]) -> Result<(), Refused> {
+    let from = tables::read(bytes)?.form;
     let mut converted = [0u8; 1032];
-    let written = tables::convert(bytes, from, &mut converted);
-    let verdict = written.verdict;
-    match verdict {
-        Verdict::Refused(refusal, place) => refuse(bytes, refusal, place),
-        Verdict::Accepted => {
-            let n = written.size;
-            printing::text(&converted[..n]);
-            say_way(from);
-            printing::ended(0);
-        }
+    let size = tables::convert(bytes, from, &mut converted)?;
+    printing::ignored(rt.write_all(&converted[..size]));
+    printing::ignored(say_way(rt, from));
+    Ok(())
+}
+
+// The answer to the bytes of a stored table.
+fn answer(rt: &(impl Print + Eprint), bytes: &[u8]) -> Ending {
+    match convert(rt, bytes) {
+        Ok(()) => Ending::Done,
+        Err(refused) => printing::refuse_file(rt, bytes, refused),
     }
 }
 
-// The answer to the bytes of a stored table: it is converted from the form that it is of.
-fn answer(bytes: &[u8]) {
-    let read = tables::read(bytes);
-    let verdict = read.verdict;
-    match verdict {
-        Verdict::Refused(refusal, place) => refuse(bytes, refusal, place),
-        Verdict::Accepted => {
-            let stored = read.stored;
-            let form = stored.form;
-            convert(bytes, form);
-        }
-    }
-}
-
-// One byte more than a table may have is enough to see that there are too many.
-fn main() {
-    let mut bytes = [0u8; 4097];
-    let n = io::read_full(STDIN_FILENO, &mut bytes);
-    answer(&bytes[..n]);
+fn main(rt: HostRuntime) {
+    let input = Input::read();
+    printing::ended(answer(&rt, input.bytes()));
 }

@@ -2,16 +2,18 @@
 // being taken. Any bytes and any place may be asked about; what is not there counts as 0.
 #![tactic(auto)]
 
+ghost use Rattle.std.specs.Prelude.{◌≤◌};
+
 mod line;
 mod sheet;
 mod stored;
 
-pub use line::fault;
+pub use line::{Cause, fault};
 pub use sheet::line_count;
 pub use stored::{distance, needed, object_count, record_size};
 
 // The numbers of one object as they are written, in range or not. Only records of form two have a first release.
-#[derive(Clone, Copy)]
+#[derive(Clone, Copy, Debug, PartialEq, Eq)]
 pub struct Row {
     pub id: u64,
     pub cost: u64,
@@ -20,22 +22,28 @@ pub struct Row {
     pub first: u64,
 }
 
-// The object at a place of a sheet or of a stored table.
-pub fn row_at(bytes: &[u8], sheet: bool, place: usize) -> Row {
-    if sheet {
-        sheet::row(bytes, place)
-    } else {
-        stored::row(bytes, place)
-    }
+// What the refused bytes are: a sheet, with a line for each object, or a stored table, with a record for each.
+#[derive(Clone, Copy, Debug, PartialEq, Eq)]
+pub enum Source {
+    Sheet,
+    Stored,
 }
 
-// The first place with this id, of those before `place`; `place` where there is none.
-pub fn first_with(bytes: &[u8], sheet: bool, place: usize, id: u64) -> usize {
-    for k in 0..place {
-        let row = row_at(bytes, sheet, k);
-        if row.id == id {
-            return k;
+impl Source {
+    // The object at a place.
+    pub fn row_at(self, bytes: &[u8], place: usize) -> Row {
+        match self {
+            Source::Sheet => sheet::row(bytes, place),
+            Source::Stored => stored::row(bytes, place),
         }
     }
-    place
+
+    // The first place with this id, of those before `place`; `place` where there is none.
+    pub fn first_with(self, bytes: &[u8], place: usize, id: u64) -> usize
+        ensures { result ≤ place }
+    {
+        (0..place)
+            .find(|k| self.row_at(bytes, *k).id == id)
+            .unwrap_or(place)
+    }
 }

@@ -1,98 +1,43 @@
 // The lines of a sheet and the numbers in one. Lines count from 0 and end with LF, whatever stands before it.
-ghost use Rattle.std.specs.Prelude.{◌≤◌, length};
-
 use super::Row;
 
 // How many lines there are, a last one without its end among them.
 pub fn line_count(bytes: &[u8]) -> u64 {
-    let mut count: u64 = 0;
-    let mut open = false;
-    for i in 0..bytes.len() {
-        open = bytes[i] != b'\n';
-        if !open {
-            count = std::num::wrapping_add_u64(count, 1);
-        }
-    }
-    if open {
-        count = std::num::wrapping_add_u64(count, 1);
-    }
-    count
+    bytes.split_inclusive(|byte| *byte == b'\n').count() as u64
 }
 
-// Where a line begins; the end of the bytes where there are fewer lines.
-pub(crate) fn line_start(bytes: &[u8], line: usize) -> usize
-    ensures { result ≤ length bytes.now }
-{
-    let mut left = line;
-    let mut at = 0;
-    while at < bytes.len() {
-        if left == 0 {
-            return at;
-        }
-        if bytes[at] == b'\n' {
-            left -= 1;
-        }
-        at += 1;
-    }
-    at
-}
-
-// A line read up to some byte: the numbers of its first four fields, and which field is open.
-#[derive(Clone, Copy)]
-struct Fields {
-    field: usize,
-    numbers: [u64; 4],
-}
-
-// The fields after one more byte: a digit belongs to the open field, a comma opens the next.
-fn fields_after(fields: Fields, byte: u8) -> Fields {
-    let field = fields.field;
-    let mut numbers = fields.numbers;
-    if byte == b',' {
-        return Fields {
-            field: std::num::wrapping_add_usize(field, 1),
-            numbers,
-        };
-    }
-    if field < 4 {
-        if (b'0' <= byte) & (byte <= b'9') {
-            numbers[field] = digit_more(numbers[field], byte);
-        }
-    }
-    Fields { field, numbers }
+// A line with its end; no bytes where there are fewer lines.
+pub(crate) fn line_at(bytes: &[u8], line: usize) -> &[u8] {
+    bytes
+        .split_inclusive(|byte| *byte == b'\n')
+        .nth(line)
+        .unwrap_or(&[])
 }
 
 // The number with one more digit; a number of more than 15 digits is not followed.
-fn digit_more(number: u64, digit: u8) -> u64 {
-    if number < 1000000000000000 {
-        if b'0' <= digit {
-            return 10 * number + ((digit - b'0') as u64);
-        }
+fn digit_more(number: u64, digit: &u8) -> u64 {
+    if number < 1000000000000000 && digit.is_ascii_digit() {
+        10 * number + u64::from(*digit - b'0')
+    } else {
+        number
     }
-    number
 }
 
-// The numbers of a line.
+// The number that the digits of a field make.
+fn number_in(field: &[u8]) -> u64 {
+    field.iter().fold(0, digit_more)
+}
+
+// The numbers of a line, which are those of its first four fields.
 pub(crate) fn row(bytes: &[u8], line: usize) -> Row {
-    let mut fields = Fields {
-        field: 0,
-        numbers: [0u64; 4],
-    };
-    let mut at = line_start(bytes, line);
-    while at < bytes.len() {
-        if bytes[at] == b'\n' {
-            break;
-        }
-        let more = fields_after(fields, bytes[at]);
-        fields = more;
-        at += 1;
-    }
-    let numbers = fields.numbers;
+    let mut numbers = line_at(bytes, line)
+        .split(|byte| *byte == b',')
+        .map(number_in);
     Row {
-        id: numbers[0],
-        cost: numbers[1],
-        validity: numbers[2],
-        hold: numbers[3],
+        id: numbers.next().unwrap_or(0),
+        cost: numbers.next().unwrap_or(0),
+        validity: numbers.next().unwrap_or(0),
+        hold: numbers.next().unwrap_or(0),
         first: 0,
     }
 }

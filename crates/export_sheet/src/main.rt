@@ -2,52 +2,38 @@
 // standard error as "refused N at K" and why, and nothing is written.
 #![tactic(auto)]
 
-use printing::STDIN_FILENO;
-use rules::{Form, Table, Verdict};
-
-// The lines of the table. A line of four numbers in their ranges has at most 29 bytes, and there are at most 64.
-fn write_sheet(table: Table) {
-    let mut bytes = [0u8; 1856];
-    let written = sheets::export(table, &mut bytes);
-    let n = written.size;
-    printing::text(&bytes[..n]);
-}
+use printing::{Ending, Input};
+use rules::{Form, Refused};
 
 // A sheet has no column for first releases. Whoever exports a table that has them is told, so that they are not lost unseen.
-fn note_firsts(form: Form) {
-    match form {
-        Form::NoForm | Form::One => {}
-        Form::Two => printing::complain(
-            b"The first releases of the table are not in the sheet, which has no place for them. Keep the table as well.\n",
-            0,
-        ),
+fn note_firsts(rt: &impl Eprint, form: Option<Form>) -> std::io::Result<()> {
+    if form == Some(Form::Two) {
+        eprintln!(rt;
+            "The first releases of the table are not in the sheet, which has no place for them. Keep the table as well."
+        )?;
     }
+    Ok(())
+}
+
+// Writes the lines of a table. A line of four numbers in their ranges has at most 29 bytes, and there are at most 64.
+fn export(rt: &(impl Print + Eprint), bytes: &[u8]) -> Result<(), Refused> {
+    let stored = tables::read(bytes)?;
+    let mut sheet = [0u8; 1856];
+    let size = sheets::export(stored.table, &mut sheet)?;
+    printing::ignored(rt.write_all(&sheet[..size]));
+    printing::ignored(note_firsts(rt, stored.form));
+    Ok(())
 }
 
 // The answer to the bytes of a stored table.
-fn answer(bytes: &[u8]) {
-    let read = tables::read(bytes);
-    let verdict = read.verdict;
-    match verdict {
-        Verdict::Refused(refusal, place) => {
-            printing::complaint(refusal, place);
-            printing::explain_table(bytes, refusal, place);
-            printing::ended(1);
-        }
-        Verdict::Accepted => {
-            let stored = read.stored;
-            let table = stored.table;
-            write_sheet(table);
-            let form = stored.form;
-            note_firsts(form);
-            printing::ended(0);
-        }
+fn answer(rt: &(impl Print + Eprint), bytes: &[u8]) -> Ending {
+    match export(rt, bytes) {
+        Ok(()) => Ending::Done,
+        Err(refused) => printing::refuse_file(rt, bytes, refused),
     }
 }
 
-// One byte more than a table may have is enough to see that there are too many.
-fn main() {
-    let mut bytes = [0u8; 4097];
-    let n = io::read_full(STDIN_FILENO, &mut bytes);
-    answer(&bytes[..n]);
+fn main(rt: HostRuntime) {
+    let input = Input::read();
+    printing::ended(answer(&rt, input.bytes()));
 }

@@ -2,38 +2,31 @@
 // standard error as "refused N at K" and why, and nothing is written.
 #![tactic(auto)]
 
-use printing::STDIN_FILENO;
-use rules::{Table, Verdict};
+use printing::{Ending, Input};
+use rules::Refused;
 
-// The bytes of the table. 64 records and the trailer are 776 bytes.
-fn write_table(table: Table) {
-    let mut bytes = [0u8; 776];
-    let written = tables::write(table, &mut bytes);
-    let n = written.size;
-    printing::text(&bytes[..n]);
+// Writes the table of a sheet. 64 records and the trailer are 776 bytes.
+fn import(rt: &impl Print, bytes: &[u8]) -> Result<(), Refused> {
+    let table = sheets::import(bytes)?;
+    let mut stored = [0u8; 776];
+    let size = tables::write(table, &mut stored)?;
+    printing::ignored(rt.write_all(&stored[..size]));
+    Ok(())
 }
 
 // The answer to the bytes of a sheet.
-fn answer(bytes: &[u8]) {
-    let read = sheets::import(bytes);
-    let verdict = read.verdict;
-    match verdict {
-        Verdict::Refused(refusal, place) => {
-            printing::complaint(refusal, place);
-            printing::explain_sheet(bytes, refusal, place);
-            printing::ended(1);
-        }
-        Verdict::Accepted => {
-            let table = read.table;
-            write_table(table);
-            printing::ended(0);
+fn answer(rt: &(impl Print + Eprint), bytes: &[u8]) -> Ending {
+    match import(rt, bytes) {
+        Ok(()) => Ending::Done,
+        Err(refused) => {
+            printing::complain(rt, refused);
+            printing::explain_sheet(rt, bytes, refused);
+            Ending::Refused
         }
     }
 }
 
-// One byte more than a sheet may have is enough to see that there are too many.
-fn main() {
-    let mut bytes = [0u8; 4097];
-    let n = io::read_full(STDIN_FILENO, &mut bytes);
-    answer(&bytes[..n]);
+fn main(rt: HostRuntime) {
+    let input = Input::read();
+    printing::ended(answer(&rt, input.bytes()));
 }

@@ -1,82 +1,52 @@
--- The least periods from each object ahead on: one more of them, and how far a sum has to go. Assumes nothing.
-use Prim.Native.Nat.{ℕ, ◌-◌, ◌≤◌, ◌<◌}
-use mathlib.Core.Path.{◌≡◌, refl, ◌∙◌}
-use mathlib.Core.List.{List}
-use native.Mathlib.Decide.{dec_lt}
+-- The loop of `lower_calms`: from the last object back, each is lowered, up to the first that is low enough. Assumes nothing.
+use Prim.Native.Nat.{ℕ, suc, ◌+◌, ◌≤◌, ◌<◌, min}
+use mathlib.Core.Path.{◌≡◌, refl, sym, ◌∙◌}
+use mathlib.Core.List.{List, [], ◌∷◌, ◌++◌, map, append_assoc}
 use native.Mathlib.Omega.{arith}
-use lib.ListN.{length, get_or, set, length-set}
-use lib.Seq.{get_or-set_same, get_or-set_other}
-use Rattle.planning.specs.Paces.{again_of, need_again, UpTo, Rising, Calmer, Calm, Reached}
+use Rattle.std.proofs.lemmas.List.{take_more, drop_more, take_all, drop_all, get_or_at, set_at, map-append, take-append-drop, append-nil, length-take-le, get_or-take}
+use lib.ListN.{length, take, drop, get_or, set}
+use Rattle.planning.specs.declared.search.Ahead.{Ahead}
+use Rattle.planning.specs.Paces.{no_ahead, Rising, lower}
 
--- the numbers from `at` to n are p, which is not above what they were, and those before `at` are as they were
-pub record Lowered (old new : List ℕ) (n p at : ℕ) : Type 0 where
-  pub up_to : at ≤ n
-  pub many : length new ≡ 64
-  pub kept : (j : ℕ) → j < at → get_or new j 0 ≡ get_or old j 0
-  pub held : (j : ℕ) → at ≤ j → j ≤ n → get_or new j 0 ≡ p
-  pub above : (j : ℕ) → at ≤ j → j < n → p ≤ get_or old j 0
+-- those from `at` on are lowered
+abbrev pub lowered : List Ahead → ℕ → ℕ → List Ahead
+lowered os p at = take at os ++ map (lower p) (drop at os)
 
-pub lowered_first : (old : List ℕ) (n p : ℕ) → length old ≡ 64 → n < 64 → Lowered (set old n p) (set old n p) n p n
-lowered_first old n p l h = record {
-  up_to = omega arith;
-  many = simp length-set l;
-  kept = λ j b. refl;
-  held = λ j a b. (let e : j ≡ n = omega arith in rw e (get_or-set_same old n p 0 (omega arith)));
-  above = λ j a b. absurd (omega arith);
-}
+pub lowered_first : (os : List Ahead) (p : ℕ) → os ≡ lowered os p (length os)
+lowered_first os p = rw (take_all (length os) os (omega arith), drop_all (length os) os (omega arith)) (sym (append-nil os))
 
--- one number further ahead
-pub lowered_next : {old new : List ℕ} {n p at : ℕ} → n < 64 → 0 < at → p < get_or new (at - 1) 0 → Lowered old new n p at → Lowered old (set new (at - 1) p) n p (at - 1)
-lowered_next {old} {new} {n} {p} {at} h l u k =
-    let b : at - 1 < length new = omega (arith, k.many, k.up_to) in
-    record {
-      up_to = omega (arith, k.up_to);
-      many = simp length-set k.many;
-      kept = λ j v. rw (get_or-set_other new (at - 1) j p 0 (λ e. omega arith)) (k.kept j (omega arith));
-      held = λ j v w. elim (dec_lt (at - 1) j) [
-        | yes y ↦ rw (get_or-set_other new (at - 1) j p 0 (λ e. omega arith)) (k.held j (omega arith) w)
-        | no y ↦ (let e : j ≡ at - 1 = omega arith in rw e (get_or-set_same new (at - 1) p 0 b))
-      ];
-      above = λ j v w. elim (dec_lt (at - 1) j) [
-        | yes y ↦ k.above j (omega arith) w
-        | no y ↦ (let e : j ≡ at - 1 = omega arith in rw e (omega (arith, k.kept (at - 1) (omega arith))))
-      ];
-    }
+pub lowered_last : (os : List Ahead) (p at : ℕ) → at ≤ 0 → lowered os p at ≡ map (lower p) os
+lowered_last os p at h = let e : at ≡ 0 = omega arith in rw e
 
-lowered_old : {old new : List ℕ} {n p at : ℕ} → Lowered (set old n p) new n p at → Lowered old new n p at
-lowered_old {old} {new} {n} {p} {at} k =
-    let same : (j : ℕ) → j < n → get_or (set old n p) j 0 ≡ get_or old j 0 = λ j b. get_or-set_other old n j p 0 (λ e. omega arith) in
-    record {
-      up_to = k.up_to;
-      many = k.many;
-      kept = λ j b. k.kept j b ∙ same j (omega (arith, k.up_to));
-      held = k.held;
-      above = λ j a b. omega (arith, k.above j a b, same j b);
-    }
+module _ (os : List Ahead) (p j : ℕ) (h : j < length os) where
+  here : lowered os p (j + 1) ≡ take j os ++ get_or os j no_ahead ∷ map (lower p) (drop (j + 1) os)
+  here = rw (take_more os j no_ahead h, append_assoc)
 
--- those before `at` are low enough
-pub lowered_last : {old new : List ℕ} {n p at : ℕ} → Rising old n → (0 < at → get_or new (at - 1) 0 ≤ p) → Lowered (set old n p) new n p at → Calmer old new n p
-lowered_last {old} {new} {n} {p} {at} up end k₀ = let k = lowered_old {old = old} {new = new} {n = n} {p = p} {at = at} k₀ in record {
-  many = k.many;
-  low = λ j b. elim (dec_lt j at) [
-    | yes y ↦ omega (arith, k.kept j y)
-    | no y ↦ omega (arith, k.held j (omega arith) (omega arith), k.above j (omega arith) b)
-  ];
-  last = omega (arith, k.held n k.up_to (omega arith));
-  rising = λ j m h b. elim (dec_lt m at) [
-    | yes y ↦ omega (arith, k.kept j (omega arith), k.kept m y, up j m h (omega (arith, k.up_to)))
-    | no y ↦ elim (dec_lt j at) [
-      | yes z ↦ omega (arith, k.held m (omega arith) (omega arith), k.kept j z, k.kept (at - 1) (omega arith), up j (at - 1) (omega arith) (omega (arith, k.up_to)), end (omega arith))
-      | no z ↦ omega (arith, k.held m (omega arith) (omega arith), k.held j (omega arith) (omega arith))
-    ]
-  ];
-}
+  length_front : length (take j os) ≡ j
+  length_front = length-take-le j os (omega arith)
 
--- a sum that goes as far as it has to is the whole sum
-pub reached_all : (ps cs calms : List ℕ) (n t r start bound x : ℕ) → Calm ps cs calms n → Reached calms n t r → UpTo bound (need_again ps cs r start t) x → UpTo bound (need_again ps cs n start t) x
-reached_all ps cs calms n t r start bound x q k u =
-    let e : again_of ps cs n t ≡ again_of ps cs r t = elim (dec_lt r n) [
-      | yes l ↦ q r t l (k.behind l)
-      | no l ↦ (let z : r ≡ n = omega (arith, k.up_to) in rw z)
-    ] in
-    record { under = omega (arith, e, u.under); same = λ h. omega (arith, e, u.same h) }
+  pub standing : get_or (lowered os p (j + 1)) j no_ahead ≡ get_or os j no_ahead
+  standing = rw here (get_or_at (take j os) (get_or os j no_ahead) (map (lower p) (drop (j + 1) os)) no_ahead j length_front)
+
+  -- one further ahead
+  pub lowered_next : p < (get_or os j no_ahead).calm → set (lowered os p (j + 1)) j (record { pace = (get_or os j no_ahead).pace; cost = (get_or os j no_ahead).cost; calm = p }) ≡ lowered os p j
+  lowered_next l =
+      let o = get_or os j no_ahead in
+      let v : Ahead = record { pace = o.pace; cost = o.cost; calm = p } in
+      let m : min o.calm p ≡ p = omega arith in
+      rw (here, set_at (take j os) o (map (lower p) (drop (j + 1) os)) v j length_front, drop_more os j no_ahead h, m)
+
+-- objects that are low enough stay as they are
+low_enough : (os : List Ahead) (p : ℕ) → ((k : ℕ) → k < length os → (get_or os k no_ahead).calm ≤ p) → map (lower p) os ≡ os
+low_enough [] p l = refl
+low_enough (o ∷ os) p l =
+    let m : min o.calm p ≡ o.calm = omega (arith, l 0 (omega arith)) in
+    rw (m, low_enough os p (λ k h. l (suc k) (omega arith)))
+
+-- and where one is, so are all ahead of it
+pub lowered_enough : (os : List Ahead) (p j : ℕ) → j < length os → Rising os → (get_or os j no_ahead).calm ≤ p → lowered os p (j + 1) ≡ map (lower p) os
+lowered_enough os p j h up l =
+    let n : length (take (j + 1) os) ≡ j + 1 = length-take-le (j + 1) os (omega arith) in
+    let e = low_enough (take (j + 1) os) p (λ k b. rw (get_or-take (j + 1) os k no_ahead (omega arith)) (omega (arith, up k j (omega arith) h))) in
+    let f : map (lower p) (take (j + 1) os) ++ map (lower p) (drop (j + 1) os) ≡ map (lower p) os = sym (map-append (lower p) (take (j + 1) os) (drop (j + 1) os)) ∙ rw (take-append-drop (j + 1) os) in
+    rw e at f

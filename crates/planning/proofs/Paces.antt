@@ -1,40 +1,35 @@
--- The search over paces and costs: what it adds up grows and stays small, and where each pace and cost tells a planned row, it is what the rows
--- need. Assumes nothing.
+-- What a search adds up: it grows and stays small, and over what is known of planned rows it is what those rows need. Assumes nothing.
 use Prim.Native.Nat.{ℕ, zero, suc, ◌+◌, ◌-◌, ◌*◌, ◌/◌, ◌≤◌, ◌<◌, min}
 use mathlib.Core.Path.{◌≡◌, refl, ◌∙◌}
-use mathlib.Core.List.{List, [], ◌∷◌}
+use mathlib.Core.List.{List, [], ◌∷◌, ◌++◌, map}
 use mathlib.Core.Option.{Option, none, some}
 use native.Mathlib.Decide.{dec_lt}
 use native.Mathlib.Omega.{arith}
-use native.Mathlib.Nat.{add-div_right, add-mul, div-eq_of_lt, div-eq_of_lt-le, div-le_self, div-mul-le_self, div-zero, lt-div-mul-add, mul_assoc, mul_comm, mul-le-mul, mul-le-mul_left, mul-le-mul_right, mul-suc, suc-mul, zero-mul}
+use native.Mathlib.Nat.{add-div_right, add-mul, div-eq_of_lt, div-eq_of_lt-le, div-le_self, div-mul-le_self, div-zero, lt-div-mul-add, mul_assoc, mul_comm, mul-le-mul, mul-le-mul_left, mul-le-mul_right, mul-suc, suc-mul, zero-mul, mul-zero}
 use native.Mathlib.Numerals.{add-one}
 use borrow.Author.Tests.{lt-ltb, le-ltb}
-use lib.ListN.{length, take, get_or, set, replicate, length-set}
-use lib.Seq.{take-suc, get_or-set_same, get_or-set_other}
+use lib.ListN.{length, take, drop, get_or, length-drop}
+use lib.Seq.{get_or-drop, get_or-take, length-take-le}
+use Rattle.std.specs.Prelude as answer
+use Rattle.std.specs.List.{sum_by, All}
+use Rattle.std.proofs.lemmas.List.{get_or_default}
+use Rattle.std.proofs.lemmas.List.Sums.{sum_by-cons, sum_by-take-drop, sum_by-le, sum_by-le-sum_by}
 use Rattle.rules.specs.declared.PlanRow.{PlanRow}
-use Rattle.rules.specs.Deadlines.{ceiling, brings, window_of, need_of, first_fixed, smallest_within, no_plan_row}
-use Rattle.rules.proofs.Balance.{div_grows, window_more, fixed_same}
-use Rattle.planning.specs.declared.Smallest.{Smallest}
-use Rattle.planning.specs.declared.Smallest.TheVariants.{At, Nothing}
-use Rattle.planning.specs.Made.{job_of}
-use Rattle.planning.specs.Paces.{pace_of, Below, again_of, need_again, UpTo, Rising, Calm, found_of}
+use Rattle.rules.specs.Deadlines.{ceiling, brings, window_of, need_of, first_fixed, smallest_within}
+use Rattle.rules.proofs.Balance.{div_grows, fixed_same}
+use Rattle.planning.specs.declared.search.Ahead.{Ahead}
+use Rattle.planning.specs.Made.{job_of, ahead_of, least, known_of}
+use Rattle.planning.specs.Paces.{pace_of, again, need_again, UpTo, no_ahead, Low, Rising, Steady, lower, Reached, found_of}
 
 -- ── What is added up ──
 
-pub again_grows : (ps cs : List ℕ) (n : ℕ) {s t : ℕ} → s ≤ t → again_of ps cs n s ≤ again_of ps cs n t
-again_grows ps cs zero h = omega arith
-again_grows ps cs (suc n) {s} {t} h =
-    let m = get_or ps n 0 in
-    let a : (s - 1) * m ≤ (t - 1) * m = mul-le-mul_right m (omega arith) in
-    let b : (s - 1) * m / 1099511627776 * get_or cs n 0 ≤ (t - 1) * m / 1099511627776 * get_or cs n 0 = mul-le-mul_right (get_or cs n 0) (div_grows ((s - 1) * m) ((t - 1) * m) 1099511627776 a) in
-    omega (arith, again_grows ps cs n h)
+again_grows : {s t : ℕ} (o : Ahead) → s ≤ t → again s o ≤ again t o
+again_grows {s} {t} o h =
+    let a : (s - 1) * o.pace ≤ (t - 1) * o.pace = mul-le-mul_right o.pace (omega arith) in
+    mul-le-mul_right o.cost (div_grows ((s - 1) * o.pace) ((t - 1) * o.pace) 1099511627776 a)
 
-pub again_more : (ps cs : List ℕ) (t i n : ℕ) → i ≤ n → again_of ps cs i t ≤ again_of ps cs n t
-again_more ps cs t i zero h = let e : i ≡ 0 = omega arith in rw e (omega arith)
-again_more ps cs t i (suc n) h = elim (dec_lt i (suc n)) [
-  | yes l ↦ omega (arith, again_more ps cs t i n (omega arith))
-  | no l ↦ (let e : i ≡ suc n = omega arith in rw e (omega arith))
-]
+pub need_grows : (os : List Ahead) (start : ℕ) {s t : ℕ} → s ≤ t → need_again os start s ≤ need_again os start t
+need_grows os start {s} {t} h = omega (arith, sum_by-le-sum_by (again s) (again t) os (λ o. again_grows o h))
 
 -- the numbers of one turn
 pub product_small : (s m : ℕ) → s ≤ 1000000 → m ≤ 1099511627777 → s * m ≤ 1099511627777000000
@@ -100,102 +95,126 @@ pace_to p = omega (arith, div-le_self 1099511627776 (min p 1000000))
 ceiling_once : (t p : ℕ) → 1 ≤ t → 1 ≤ p → ceiling t p ≡ (t - 1) / p + 1
 ceiling_once t p h l = let e : t + (p - 1) ≡ (t - 1) + p = omega arith in rw e (add-div_right (t - 1) l)
 
--- ── Rows told by a pace and a cost ──
+-- ── Planned rows ──
 
--- what the row brings is the cost once and then again as the pace has it, and not again within `calm` slots
-pub record Told (r : PlanRow) (pace cost calm : ℕ) : Type 0 where
-  pub brought : (t : ℕ) → 1 ≤ t → t ≤ 1000000 → brings t r ≡ cost + (t - 1) * pace / 1099511627776 * cost
-  pub once : (t : ℕ) → t ≤ calm → (t - 1) * pace / 1099511627776 ≡ 0
-
-pub row_told : (r : PlanRow) (calm : ℕ) → 1 ≤ r.period → calm ≤ r.period → calm ≤ 1000000 → Told r (pace_of r.period) r.cost calm
-row_told r calm l c u = record {
-  brought = λ t h k.
-      let e = pace_right (t - 1) r.period (omega arith) l in
-      rw (e, ceiling_once t r.period h l, add-one, suc-mul ((t - 1) / r.period) r.cost) (omega arith);
-  once = λ t k.
-      let e = pace_right (t - 1) r.period (omega arith) l in
-      let d : (t - 1) / r.period ≡ 0 = div-eq_of_lt (omega arith) in
-      rw (e, d);
-}
-
-pub job_none : (r : PlanRow) → r.period < 1 → job_of r ≡ 0
+job_none : (r : PlanRow) → r.period < 1 → job_of r ≡ 0
 job_none r h = rw (lt-ltb r.period 1 h)
 
 pub job_one : (r : PlanRow) → 1 ≤ r.period → job_of r ≡ r.cost
 job_one r h = rw (le-ltb r.period 1 h)
 
--- any row is told by its pace and one job of it
-pub job_told : (r : PlanRow) → Told r (pace_of r.period) (job_of r) 0
-job_told r = elim (dec_lt r.period 1) [
-  | yes h ↦
-      (let z : r.period ≡ 0 = omega arith in
-      record {
-        brought = λ t a b. rw (job_none r h, z, div-zero (t + (0 - 1)), zero-mul r.cost) (omega arith);
-        once = λ t k. (let e : t - 1 ≡ 0 = omega arith in rw (e, zero-mul (pace_of r.period)));
-      })
-  | no h ↦ rw (job_one r (omega arith)) (row_told r 0 (omega arith) (omega arith) (omega arith))
+-- what a row brings is one job and then again as its pace has it
+told_brought : (r : PlanRow) (t : ℕ) → 1 ≤ t → t ≤ 1000000 → brings t r ≡ job_of r + (t - 1) * pace_of r.period / 1099511627776 * job_of r
+told_brought r t a b = elim (dec_lt r.period 1) [
+  | yes h ↦ (let z : r.period ≡ 0 = omega arith in rw (job_none r h, z, div-zero (t + (0 - 1)), zero-mul r.cost) (omega (arith, mul-zero ((t - 1) * pace_of 0 / 1099511627776))))
+  | no h ↦
+      (let l : 1 ≤ r.period = omega arith in
+      let e = pace_right (t - 1) r.period (omega arith) l in
+      rw (job_one r l, e, ceiling_once t r.period a l, add-one, suc-mul ((t - 1) / r.period) r.cost) (omega arith))
 ]
 
--- the costs of the first n, each once
-abbrev pub sum_of : List ℕ → ℕ → ℕ
-sum_of cs zero = 0
-sum_of cs (suc n) = sum_of cs n + get_or cs n 0
-
--- what is known of two arrays in which the first n rows of a plan are told
-pub record Telling (plan : List PlanRow) (ps cs calms : List ℕ) (n : ℕ) : Type 0 where
-  pub many : (length ps ≡ 64) × (length cs ≡ 64)
-  pub low_paces : Below 1099511627777 ps
-  pub low_costs : Below 4294967295 cs
-  pub told : (j : ℕ) → j < n → Told (get_or plan j no_plan_row) (get_or ps j 0) (get_or cs j 0) (get_or calms j 0)
-
-below_none : (b k : ℕ) → Below b (replicate k 0)
-below_none b zero j = omega arith
-below_none b (suc k) zero = omega arith
-below_none b (suc k) (suc j) = below_none b k j
-
-pub telling_none : (plan : List PlanRow) (calms : List ℕ) → Telling plan (replicate 64 0) (replicate 64 0) calms 0
-telling_none plan calms = record { many = (refl, refl); low_paces = below_none 1099511627777 64; low_costs = below_none 4294967295 64; told = λ j h. absurd (omega arith) }
-
-below_more : (b : ℕ) (xs : List ℕ) (n x : ℕ) → n < length xs → x ≤ b → Below b xs → Below b (set xs n x)
-below_more b xs n x l h few j = elim (dec_lt j n) [
-  | yes u ↦ other (λ e. omega arith)
-  | no u ↦ elim (dec_lt n j) [
-    | yes v ↦ other (λ e. omega arith)
-    | no v ↦ (let e : j ≡ n = omega arith in rw (e, get_or-set_same xs n x 0 l) h)
-  ]
+-- and not again within its period
+told_once : (r : PlanRow) (t c : ℕ) → c ≤ r.period → t ≤ c → t ≤ 1000000 → (t - 1) * pace_of r.period / 1099511627776 * job_of r ≡ 0
+told_once r t c h k u = elim (dec_lt r.period 1) [
+  | yes l ↦ rw (job_none r l, mul-zero ((t - 1) * pace_of r.period / 1099511627776))
+  | no l ↦
+      (let e = pace_right (t - 1) r.period (omega arith) (omega arith) in
+      let d : (t - 1) / r.period ≡ 0 = div-eq_of_lt (omega arith) in
+      rw (e, d, zero-mul (job_of r)))
 ]
-  where
-    other : (j ≡ n → ⊥) → get_or (set xs n x) j 0 ≤ b
-    other apart = rw (get_or-set_other xs n j x 0 apart) (few j)
 
-told_less : {r : PlanRow} {pace cost calm less : ℕ} → less ≤ calm → Told r pace cost calm → Told r pace cost less
-told_less h o = record { brought = o.brought; once = λ t k. o.once t (omega arith) }
+-- ── What is known of planned rows ──
 
--- one row more, in a plan that has it at place n and those before it as they were
-pub telling_more : (plan next : List PlanRow) (ps cs calms less : List ℕ) (n p x : ℕ) → n < 64 → ((j : ℕ) → j < n → get_or less j 0 ≤ get_or calms j 0) → p ≤ 1099511627777 → x ≤ 4294967295
-    → ((j : ℕ) → j < n → get_or next j no_plan_row ≡ get_or plan j no_plan_row) → Told (get_or next n no_plan_row) p x (get_or less n 0)
-    → Telling plan ps cs calms n → Telling next (set ps n p) (set cs n x) less (n + 1)
-telling_more plan next ps cs calms less n p x h l low few same new k =
-    let a : n < length ps = omega (arith, k.many.0) in
-    let b : n < length cs = omega (arith, k.many.1) in
-    record {
-      many = (simp length-set k.many.0, simp length-set k.many.1);
-      low_paces = below_more 1099511627777 ps n p a low k.low_paces;
-      low_costs = below_more 4294967295 cs n x b few k.low_costs;
-      told = λ j u. elim (dec_lt j n) [
-        | yes v ↦ (let apart : j ≡ n → ⊥ = λ e. omega arith in
-            rw (get_or-set_other ps n j p 0 apart, get_or-set_other cs n j x 0 apart, same j v) (told_less (l j v) (k.told j v)))
-        | no v ↦ (let e : j ≡ n = omega arith in rw (e, get_or-set_same ps n p 0 a, get_or-set_same cs n x 0 b) new)
-      ];
-    }
+-- what they need is one job of each and then again
+window_known : (rs : List PlanRow) (t : ℕ) → 1 ≤ t → t ≤ 1000000 → window_of rs t ≡ sum_by job_of rs + sum_by (again t) (known_of rs)
+window_known [] t h u = refl
+window_known (r ∷ rs) t h u =
+    rw (sum_by-cons job_of r rs, sum_by-cons (again t) (record { pace = pace_of r.period; cost = job_of r; calm = least r.period rs }) (known_of rs))
+    (omega (arith, window_known rs t h u, told_brought r t h u))
 
-pub sum_set : (cs : List ℕ) (i n x : ℕ) → i ≤ n → sum_of (set cs n x) i ≡ sum_of cs i
-sum_set cs zero n x h = refl
-sum_set cs (suc i) n x h = rw (sum_set cs i n x (omega arith), get_or-set_other cs n i x 0 (λ e. omega arith))
+pub need_known : (rs : List PlanRow) (own start t : ℕ) → start ≡ own + sum_by job_of rs → 1 ≤ t → t ≤ 1000000 → need_again (known_of rs) start t ≡ need_of rs own t
+need_known rs own start t e h u = omega (arith, e, window_known rs t h u)
 
--- the sum with one cost more
-pub sum_more : (cs : List ℕ) (n x : ℕ) → n < length cs → sum_of (set cs n x) (n + 1) ≡ sum_of cs n + x
-sum_more cs n x h = rw (add-one, sum_set cs n n x (omega arith), get_or-set_same cs n x 0 h)
+-- so what a search finds is the smallest t that balances
+pub search_right : (rs : List PlanRow) (own start bound : ℕ) → start ≡ own + sum_by job_of rs → bound ≤ 1000000
+    → first_fixed (need_again (known_of rs) start) bound 1 ≡ smallest_within rs own bound
+search_right rs own start bound e u =
+    fixed_same (need_again (known_of rs) start) (need_of rs own) bound 1 (λ s a b. need_known rs own start s e a (omega arith))
+
+known_length : (rs : List PlanRow) → length (known_of rs) ≡ length rs
+known_length [] = refl
+known_length (r ∷ rs) = rw (known_length rs)
+
+-- one row more
+least_more : (p : ℕ) (rs : List PlanRow) (r : PlanRow) → least p (rs ++ r ∷ []) ≡ min (least p rs) r.period
+least_more p [] r = refl
+least_more p (x ∷ rs) r = least_more (min p x.period) rs r
+
+pub known_more : (rs : List PlanRow) (r : PlanRow) → known_of (rs ++ r ∷ []) ≡ map (lower r.period) (known_of rs) ++ ahead_of r ∷ []
+known_more [] r = refl
+known_more (x ∷ rs) r = rw (known_more rs r, least_more x.period rs r)
+
+least_below : (p : ℕ) (rs : List PlanRow) → least p rs ≤ p
+least_below p [] = omega arith
+least_below p (r ∷ rs) = omega (arith, least_below (min p r.period) rs)
+
+least_grows : (p q : ℕ) (rs : List PlanRow) → p ≤ q → least p rs ≤ least q rs
+least_grows p q [] h = h
+least_grows p q (r ∷ rs) h = least_grows (min p r.period) (min q r.period) rs (omega arith)
+
+calm_below : (p : ℕ) (rs : List PlanRow) (k : ℕ) → k < length (known_of rs) → least p rs ≤ (get_or (known_of rs) k no_ahead).calm
+calm_below p [] k h = absurd (omega arith)
+calm_below p (r ∷ rs) zero h = least_grows (min p r.period) r.period rs (omega arith)
+calm_below p (r ∷ rs) (suc k) h = calm_below (min p r.period) rs k (omega arith)
+
+rising_known : (rs : List PlanRow) → Rising (known_of rs)
+rising_known [] j k h l = absurd (omega arith)
+rising_known (r ∷ rs) zero zero h l = omega arith
+rising_known (r ∷ rs) zero (suc k) h l = calm_below r.period rs k (omega arith)
+rising_known (r ∷ rs) (suc j) zero h l = absurd (omega arith)
+rising_known (r ∷ rs) (suc j) (suc k) h l = rising_known rs j k (omega arith) (omega arith)
+
+low_known : (rs : List PlanRow) (k : ℕ) → k < length (known_of rs) → (get_or (known_of rs) k no_ahead).pace ≤ 1099511627777
+low_known [] k h = absurd (omega arith)
+low_known (r ∷ rs) zero h = pace_to r.period
+low_known (r ∷ rs) (suc k) h = low_known rs k (omega arith)
+
+once_known : (rs : List PlanRow) (k t : ℕ) → k < length (known_of rs) → t ≤ (get_or (known_of rs) k no_ahead).calm → t ≤ 1000000 → again t (get_or (known_of rs) k no_ahead) ≡ 0
+once_known [] k t h l u = absurd (omega arith)
+once_known (r ∷ rs) zero t h l u = told_once r t (least r.period rs) (least_below r.period rs) l u
+once_known (r ∷ rs) (suc k) t h l u = once_known rs k t (omega arith) l u
+
+pub steady_known : (rs : List PlanRow) → Steady (known_of rs)
+steady_known rs = record { low = low_known rs; once = once_known rs; rising = rising_known rs }
+
+-- those ahead of the r-th alone
+pub low_take : (os : List Ahead) (r : ℕ) → r ≤ length os → Low os → Low (take r os)
+low_take os r h low k b =
+    let l : length (take r os) ≡ r = length-take-le r os h in
+    rw (get_or-take r os k no_ahead (omega arith)) (low k (omega arith))
+
+-- rows told each by itself, without the calms of those behind them, bring as much
+pub told_again : (t : ℕ) (rs : List PlanRow) → sum_by (again t) (map ahead_of rs) ≡ sum_by (again t) (known_of rs)
+told_again t [] = refl
+told_again t (r ∷ rs) =
+    let one : Ahead = record { pace = pace_of r.period; cost = job_of r; calm = least r.period rs } in
+    rw (sum_by-cons (again t) (ahead_of r) (map ahead_of rs), sum_by-cons (again t) one (known_of rs), told_again t rs)
+
+pub low_told : (rs : List PlanRow) → Low (map ahead_of rs)
+low_told [] k h = absurd (omega arith)
+low_told (r ∷ rs) zero h = pace_to r.period
+low_told (r ∷ rs) (suc k) h = low_told rs k (omega arith)
+
+-- a sum that goes as far as it has to is the whole sum
+pub reached_all : (os : List Ahead) (t r start bound x : ℕ) → t ≤ 1000000 → Steady os → Reached os t r → UpTo bound (need_again (take r os) start t) x → UpTo bound (need_again os start t) x
+reached_all os t r start bound x few s k u =
+    let none : All (λ o. again t o ≤ 0) (drop r os) = λ j d h. (
+    let l : r + j < length os = omega (arith, length-drop r os) in
+    let e = get_or-drop r os j d ∙ get_or_default os (r + j) d no_ahead l in
+    rw e (omega (arith, s.once (r + j) t l (omega (arith, k.behind (omega arith), s.rising r (r + j) (omega arith) l)) few))) in
+    let z = sum_by-le (again t) 0 (drop r os) none in
+    let e = sum_by-take-drop (again t) os r in
+    record { under = omega (arith, e, z, u.under); same = λ h. omega (arith, e, z, u.same h) }
 
 -- no slots bring nothing
 pub window_none : (rs : List PlanRow) → window_of rs 0 ≡ 0
@@ -207,42 +226,12 @@ window_none (r ∷ rs) =
     ] in
     rw (e, window_none rs) (omega (arith, zero-mul r.cost))
 
--- ── What the search finds ──
+-- ── What a search tells ──
 
-window_told : (plan : List PlanRow) (ps cs calms : List ℕ) (n t : ℕ) → n ≤ length plan → ((j : ℕ) → j < n → Told (get_or plan j no_plan_row) (get_or ps j 0) (get_or cs j 0) (get_or calms j 0)) → 1 ≤ t → t ≤ 1000000
-    → window_of (take n plan) t ≡ sum_of cs n + again_of ps cs n t
-window_told plan ps cs calms zero t l told h u = refl
-window_told plan ps cs calms (suc n) t l told h u =
-    let i = window_told plan ps cs calms n t (omega arith) (λ j b. told j (omega arith)) h u in
-    let b = (told n (omega arith)).brought t h u in
-    rw (take-suc plan n no_plan_row l) (omega (arith, i, b, window_more (take n plan) (get_or plan n no_plan_row) t))
-
-module _ (plan : List PlanRow) (ps cs calms : List ℕ) (n : ℕ) (k : Telling plan ps cs calms n) where
-  -- what it adds up, begun at the costs of the object and of all ahead of it, is what the object needs
-  pub need_told : (start cost t : ℕ) → n ≤ length plan → start ≡ cost + sum_of cs n → 1 ≤ t → t ≤ 1000000 → need_again ps cs n start t ≡ need_of (take n plan) cost t
-  need_told start cost t l e h u = omega (arith, e, window_told plan ps cs calms n t l k.told h u)
-
-  -- so what it finds is the smallest t that balances
-  pub search_right : (start cost bound : ℕ) → n ≤ length plan → start ≡ cost + sum_of cs n → bound ≤ 1000000 → first_fixed (need_again ps cs n start) bound 1 ≡ smallest_within (take n plan) cost bound
-  search_right start cost bound l e u =
-      fixed_same (need_again ps cs n start) (need_of (take n plan) cost) bound 1 (λ s a b. need_told start cost s l e a (omega arith))
-
--- and within calms[m] slots none of them from the m-th on comes again
-pub calm_behind : (plan : List PlanRow) (ps cs calms : List ℕ) (n : ℕ) → ((j : ℕ) → j < n → Told (get_or plan j no_plan_row) (get_or ps j 0) (get_or cs j 0) (get_or calms j 0)) → Rising calms n → Calm ps cs calms n
-calm_behind plan ps cs calms zero told up m t l h = absurd (omega arith)
-calm_behind plan ps cs calms (suc n) told up m t l h =
-    let z = (told n (omega arith)).once t (omega (arith, up m n (omega arith) (omega arith))) in
-    let e : again_of ps cs (suc n) t ≡ again_of ps cs n t = rw z (omega (arith, zero-mul (get_or cs n 0))) in
-    elim (dec_lt m n) [
-      | yes v ↦ e ∙ calm_behind plan ps cs calms n (λ j b. told j (omega arith)) (λ j k a b. up j k a (omega arith)) m t v h
-      | no v ↦ (let q : m ≡ n = omega arith in rw q e)
-    ]
-
--- what is told of a search
-pub found_at : (o : Option ℕ) (r : Smallest) (t : ℕ) → r ≡ found_of o → r ≡ At t → o ≡ some t
+pub found_at : (o : Option ℕ) (r : answer.Option ℕ) (t : ℕ) → r ≡ found_of o → r ≡ answer.Some t → o ≡ some t
 found_at (some s) r t e q = let z : s ≡ t = cc in rw z
 found_at none r t e q = let z : ◌≡◌ {A = ℕ} 0 1 = cc in absurd (omega arith)
 
-pub found_none : (o : Option ℕ) (r : Smallest) → r ≡ found_of o → r ≡ Nothing → o ≡ none
+pub found_none : (o : Option ℕ) (r : answer.Option ℕ) → r ≡ found_of o → ((t : ℕ) → r ≡ answer.Some t → ⊥) → o ≡ none
 found_none none r e q = refl
-found_none (some s) r e q = let z : ◌≡◌ {A = ℕ} 0 1 = cc in absurd (omega arith)
+found_none (some s) r e q = absurd (q s e)

@@ -2,11 +2,12 @@
 use Rattle.std.proofs.Common.{◌≡◌, ℕ, zero, suc, ◌+◌, ◌-◌, ◌*◌, ◌/◌, ◌%◌, ◌^◌, ◌<◌, ◌≤◌, List, [], ◌∷◌, ◌++◌, length, get_or, take, set, sym, refl, ap, ◌∙◌, add-one, arith, length-append, take-suc, lt-ltb}
 use native.Mathlib.Numerals.{unary_clauses}
 use lib.ListN.{replicate-append-replicate}
-use lib.Seq.{sets, take-nil}
+use lib.Seq.{sets}
 use Rattle.io.specs.Digits.{last_digits, IsDigitCount}
 use Rattle.rules.specs.Sheet.{decimal}
 use Rattle.rules.proofs.Digits.{decimal_small, decimal_last}
-use Rattle.printing.specs.Lines.{fitting, line_after, place_after, blanks}
+use Rattle.printing.specs.declared.line.Line.{Line}
+use Rattle.printing.specs.Lines.{fitting, line_after, place_after, with_bytes, blanks}
 
 -- ── Places ──
 
@@ -31,37 +32,27 @@ fitting_more at xs ys =
     rw e (take_more (160 - at) xs ys)
 
 -- some bytes put, and then others where the next byte goes
-pub put_then : (at : ℕ) (xs ys s : List ℕ) {s' s'' : List ℕ} {next last : ℕ} → (s' ≡ line_after s at xs) × (next ≡ place_after at xs) → (s'' ≡ line_after s' next ys) × (last ≡ place_after next ys) → (s'' ≡ line_after s at (xs ++ ys)) × (last ≡ place_after at (xs ++ ys))
-put_then at xs ys s a b =
+pub put_then : (line : Line) (xs ys : List ℕ) → with_bytes (with_bytes line xs) ys ≡ with_bytes line (xs ++ ys)
+put_then line xs ys =
+    let at = line.at in
     let e = fitting_more at xs ys in
-    let n = length-append (fitting at xs) (fitting (place_after at xs) ys) in (
-      b.0 ∙ rw (a.1, a.0) (sets_more at (fitting at xs) (fitting (place_after at xs) ys) s ∙ ap (λ (l : List ℕ). sets s at l) e),
-      b.1 ∙ rw a.1 (sym (rw e at (ap (λ (k : ℕ). at + k) n) ∙ omega arith)),
-    )
-
--- nothing, one byte that fits, and one that does not
-pub put_none : (at : ℕ) (s : List ℕ) → (s ≡ line_after s at []) × (at ≡ place_after at [])
-put_none at s = rw (take-nil {A = ℕ} (160 - at)) (refl, omega arith)
-
-pub put_one : (at b : ℕ) (s : List ℕ) → at < 160 → (set s at b ≡ line_after s at (b ∷ [])) × (at + 1 ≡ place_after at (b ∷ []))
-put_one at b s h =
-    let e : 160 - at ≡ suc (159 - at) = omega arith in
-    rw (e, take-nil {A = ℕ} (159 - at)) (refl, refl)
-
-pub put_beyond : (at b : ℕ) (s : List ℕ) → 160 ≤ at → (s ≡ line_after s at (b ∷ [])) × (at ≡ place_after at (b ∷ []))
-put_beyond at b s h = let e : 160 - at ≡ 0 = omega arith in rw e (refl, omega arith)
+    let n = length-append (fitting at xs) (fitting (place_after at xs) ys) in
+    let bytes : line_after (line_after line.bytes at xs) (place_after at xs) ys ≡ line_after line.bytes at (xs ++ ys) =
+    sets_more at (fitting at xs) (fitting (place_after at xs) ys) line.bytes ∙ ap (λ (l : List ℕ). sets line.bytes at l) e in
+    let place : place_after (place_after at xs) ys ≡ place_after at (xs ++ ys) = sym (rw e at (ap (λ (k : ℕ). at + k) n) ∙ omega arith) in
+    rw (bytes, place)
 
 -- one byte of a text more
-pub text_on : (at i : ℕ) (text s : List ℕ) {s' s'' : List ℕ} {to last : ℕ} → i < length text → (s' ≡ line_after s at (take i text)) × (to ≡ place_after at (take i text)) → (s'' ≡ line_after s' to (get_or text i 0 ∷ [])) × (last ≡ place_after to (get_or text i 0 ∷ [])) → (s'' ≡ line_after s at (take (i + 1) text)) × (last ≡ place_after at (take (i + 1) text))
-text_on at i text s l f g =
+pub text_on : (line : Line) (i : ℕ) (text : List ℕ) → i < length text → with_bytes (with_bytes line (take i text)) (get_or text i 0 ∷ []) ≡ with_bytes line (take (i + 1) text)
+text_on line i text l =
     let t : take (i + 1) text ≡ take i text ++ (get_or text i 0 ∷ []) = rw add-one (take-suc text i 0 l) in
-    rw t (put_then at (take i text) (get_or text i 0 ∷ []) s f g)
+    rw t (put_then line (take i text) (get_or text i 0 ∷ []))
 
 -- one blank more
-pub blank_on : (at i : ℕ) (s : List ℕ) {s' s'' : List ℕ} {to last : ℕ} → (s' ≡ line_after s at (blanks i)) × (to ≡ place_after at (blanks i)) → (s'' ≡ line_after s' to (32 ∷ [])) × (last ≡ place_after to (32 ∷ [])) → (s'' ≡ line_after s at (blanks (i + 1))) × (last ≡ place_after at (blanks (i + 1)))
-blank_on at i s f g =
+pub blank_on : (line : Line) (i : ℕ) → with_bytes (with_bytes line (blanks i)) (32 ∷ []) ≡ with_bytes line (blanks (i + 1))
+blank_on line i =
     let t : blanks (i + 1) ≡ blanks i ++ (32 ∷ []) = sym (replicate-append-replicate i 1 32) in
-    rw t (put_then at (blanks i) (32 ∷ []) s f g)
+    rw t (put_then line (blanks i) (32 ∷ []))
 
 -- ── Digits ──
 

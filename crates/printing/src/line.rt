@@ -1,90 +1,93 @@
-// One line of output, made in a buffer and written as a whole. Each function answers where the next byte goes; what does
-// not fit is left out.
-ghost use Rattle.std.specs.Prelude.{◌≡◌, ◌-◌, [], ◌∷◌};
+// One line of output, made in a buffer and written as a whole. What does not fit is left out. The buffer has a fixed length, since a library of
+// this repository has no heap.
+ghost use Rattle.std.specs.Prelude.{◌≡◌, ◌-◌, [], ◌∷◌, replicate};
 ghost use Rattle.rules.specs.Sheet.{decimal};
-ghost use Rattle.printing.specs.Lines.{line_after, place_after, blanks, padded};
+ghost use Rattle.printing.specs.Lines.{with_bytes, blanks, padded};
 
-// One byte.
-pub fn put(line: &mut [u8; 160], at: usize, byte: u8) -> usize
-    ensures { (line.new ≡ line_after line.old at (byte ∷ [])) × (result ≡ place_after at (byte ∷ [])) }
-{
-    if at < 160 {
-        line[at] = byte;
-        at + 1
-    } else {
-        at
-    }
+// So many bytes a line has, its end among them.
+const WIDTH: usize = 160;
+
+// The bytes, and where the next one goes.
+#[derive(Drop)]
+pub struct Line {
+    bytes: [u8; WIDTH],
+    at: usize,
 }
 
-// The bytes as they are.
-pub fn put_text(line: &mut [u8; 160], at: usize, text: &[u8]) -> usize
-    ensures { (line.new ≡ line_after line.old at text.now) × (result ≡ place_after at text.now) }
-{
-    let mut to = at;
-    for i in 0..text.len() {
-        to = put(line, to, text[i]);
-    }
-    to
-}
-
-// Blanks.
-pub fn put_blanks(line: &mut [u8; 160], at: usize, count: usize) -> usize
-    ensures { (line.new ≡ line_after line.old at (blanks count)) × (result ≡ place_after at (blanks count)) }
-{
-    let mut to = at;
-    for i in 0..count {
-        to = put(line, to, b' ');
-    }
-    to
-}
-
-// The number in decimal digits.
-pub fn put_number(line: &mut [u8; 160], at: usize, n: u64) -> usize
-    ensures { (line.new ≡ line_after line.old at (decimal n)) × (result ≡ place_after at (decimal n)) }
-{
-    let mut digits = [0u8; 20];
-    let k = io::decimal(n, &mut digits);
-    put_text(line, at, &digits[..k])
-}
-
-// How many more than `have` are wanted.
-fn missing(wanted: usize, have: usize) -> usize
-    ensures { result ≡ wanted - have }
-{
-    if have < wanted { wanted - have } else { 0 }
-}
-
-// The number at the right end of `width` columns.
-pub fn put_padded(line: &mut [u8; 160], at: usize, n: u64, width: usize) -> usize
-    ensures { (line.new ≡ line_after line.old at (padded n width)) × (result ≡ place_after at (padded n width)) }
-{
-    let mut digits = [0u8; 20];
-    let k = io::decimal(n, &mut digits);
-    let to = put_blanks(line, at, missing(width, k));
-    put_text(line, to, &digits[..k])
-}
-
-// The bytes before `to`.
-fn write(bytes: &[u8], to: usize) {
-    if to <= bytes.len() {
-        super::text(&bytes[..to]);
-    }
-}
-
-// Where the blanks at the end of the first `at` bytes begin.
-fn trimmed(line: &[u8; 160], at: usize) -> usize {
-    let mut to = 0;
-    for i in 0..160usize {
-        if (i < at) & (line[i] != b' ') {
-            to = i + 1;
+impl Line {
+    // The line with nothing in it yet.
+    pub fn new() -> Line
+        ensures { result ≡ record { bytes = replicate 160 32; at = 0 } }
+    {
+        Line {
+            bytes: [b' '; WIDTH],
+            at: 0,
         }
     }
-    to
-}
 
-// Ends the line, with no blanks before its end, and writes it.
-pub fn end(line: &mut [u8; 160], at: usize) {
-    let last = trimmed(line, at);
-    let to = put(line, last, b'\n');
-    write(line, to);
+    // One byte.
+    pub fn put(&mut self, byte: u8)
+        ensures { self.new ≡ with_bytes self.old (byte ∷ []) }
+    {
+        if self.at < WIDTH {
+            self.bytes[self.at] = byte;
+            self.at += 1;
+        }
+    }
+
+    // The bytes as they are.
+    pub fn text(&mut self, text: &[u8])
+        ensures { self.new ≡ with_bytes self.old text.now }
+    {
+        for byte in text {
+            self.put(*byte);
+        }
+    }
+
+    // Blanks.
+    pub fn blanks(&mut self, count: usize)
+        ensures { self.new ≡ with_bytes self.old (blanks count) }
+    {
+        for _ in 0..count {
+            self.put(b' ');
+        }
+    }
+
+    // Blanks up to a column.
+    pub fn blanks_to(&mut self, column: usize)
+        ensures { self.new ≡ with_bytes self.old (blanks (column - self.old.at)) }
+    {
+        self.blanks(column.saturating_sub(self.at));
+    }
+
+    // The number in decimal digits.
+    pub fn number(&mut self, n: u64)
+        ensures { self.new ≡ with_bytes self.old (decimal n) }
+    {
+        let mut digits = [0u8; 20];
+        let k = io::decimal(n, &mut digits);
+        self.text(&digits[..k]);
+    }
+
+    // The number at the right end of `width` columns.
+    pub fn padded(&mut self, n: u64, width: usize)
+        ensures { self.new ≡ with_bytes self.old (padded n width) }
+    {
+        let mut digits = [0u8; 20];
+        let k = io::decimal(n, &mut digits);
+        self.blanks(width.saturating_sub(k));
+        self.text(&digits[..k]);
+    }
+
+    // Ends the line, with no blanks before its end, and writes it. The place is within the line, which the struct cannot say of itself: a
+    // ghost field would import `Lines`, which names the struct.
+    pub fn end(mut self, rt: &impl Print) -> std::io::Result<()> {
+        let used = &self.bytes[..self.at.min(WIDTH)];
+        self.at = used
+            .iter()
+            .rposition(|byte| *byte != b' ')
+            .map_or(0, |last| last + 1);
+        self.put(b'\n');
+        rt.write_all(&self.bytes[..self.at.min(WIDTH)])
+    }
 }

@@ -4,7 +4,7 @@ use Rattle.std.specs.Prelude.{ℕ, zero, suc, ◌+◌, ◌≤◌, ◌≡◌, ref
 use Rattle.std.proofs.Common.{sym, ap, ap₂, ◌∙◌, true≢false, arith, le-leb, take-suc, length-take-le, get_or-take}
 use Rattle.rules.specs.declared.ObjectRow.{ObjectRow}
 use Rattle.rules.specs.declared.Table.{Table}
-use Rattle.rules.specs.declared.Verdict.TheVariants.{Accepted}
+use Rattle.rules.specs.Answers.{Accepted}
 use Rattle.rules.specs.StoredTable.{no_row, rows_in, has_id, checks_from, count_verdict, table_verdict}
 use Rattle.rules.specs.Order.{is_ahead, row_at, rows_at, insert_place, places_of, in_order}
 use Rattle.rules.specs.Deadlines.{plan_of}

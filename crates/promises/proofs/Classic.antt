@@ -6,11 +6,9 @@ use Rattle.std.proofs.Math.Option.{Option, none, some}
 use Rattle.std.proofs.Math.Seq.{take-append_seam}
 use Rattle.rules.specs.declared.ObjectRow.{ObjectRow}
 use Rattle.rules.specs.declared.PlanRow.{PlanRow}
-use Rattle.rules.specs.declared.Planned.{Planned}
+use Rattle.rules.specs.Answers.{Planned, Verdict, Accepted, Refused}
 use Rattle.rules.specs.declared.Table.{Table}
 use Rattle.rules.specs.declared.Refusal.TheVariants.{NoDeadline}
-use Rattle.rules.specs.declared.Verdict.{Verdict}
-use Rattle.rules.specs.declared.Verdict.TheVariants.{Accepted, Refused}
 use Rattle.rules.specs.StoredTable.{count_verdict, rows_in, checks_from, table_verdict}
 use Rattle.rules.specs.Order.{in_order}
 use Rattle.rules.specs.Deadlines.{ceiling, brings, window_of, own_of, need_of, smallest_within, plan_row, no_plan_row, refused_plan, planned_rows}

@@ -6,11 +6,10 @@ use Rattle.std.proofs.Math.Option.{Option, none, some}
 use Rattle.std.proofs.Math.Decide.{dec_lt}
 use Rattle.rules.specs.declared.ObjectRow.{ObjectRow}
 use Rattle.rules.specs.declared.PlanRow.{PlanRow}
-use Rattle.rules.specs.declared.Planned.{Planned}
+use Rattle.rules.specs.Answers.{Planned, Accepted, Refused}
 use Rattle.rules.specs.declared.Table.{Table}
 use Rattle.rules.specs.declared.Refusal.{Refusal}
 use Rattle.rules.specs.declared.Refusal.TheVariants.{NoDeadline}
-use Rattle.rules.specs.declared.Verdict.TheVariants.{Accepted, Refused}
 use Rattle.rules.specs.StoredTable.{no_row, table_verdict}
 use Rattle.rules.specs.Order.{in_order}
 use Rattle.rules.specs.Deadlines.{own_of, need_of, smallest_within, plan_row, refused_plan, accepted_plan, where_found, plan_from, plan_of}

@@ -3,7 +3,7 @@
 use Rattle.std.specs.Prelude.{ℕ, zero, suc, ◌≤◌, ◌<◌, ◌≡◌, refl, Bool, false, [], ◌∷◌, ltb}
 use Rattle.std.proofs.Common.{◌∙◌, arith, le-ltb}
 use Rattle.rules.specs.declared.Run.{Run}
-use Rattle.rules.specs.declared.Reading.TheVariants.{Fresh}
+use Rattle.rules.specs.Readings.{Fresh}
 use Rattle.rules.specs.StoredTable.{table_of}
 use Rattle.rules.specs.RunState.{in_hold, any}
 use Rattle.rules.specs.Run.{released_of, served_of, serve_first, may_work, aged_of, slot_of}

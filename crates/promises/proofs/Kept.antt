@@ -3,7 +3,7 @@
 use Rattle.std.specs.Prelude.{ℕ, ◌^◌, ◌<◌, ◌≡◌, true, List}
 use Rattle.rules.specs.declared.Table.{Table}
 use Rattle.rules.specs.declared.Run.{Run}
-use Rattle.rules.specs.declared.Verdict.TheVariants.{Accepted}
+use Rattle.rules.specs.Answers.{Accepted}
 use Rattle.rules.specs.StoredTable.{read_of}
 use Rattle.rules.specs.RunState.{acceptable}
 use Rattle.rules.specs.Deadlines.{plan_of}

@@ -4,12 +4,10 @@ use Rattle.std.specs.Prelude.{ℕ, zero, suc, ◌+◌, ◌≤◌, ◌<◌, ◌�
 use Rattle.std.proofs.Common.{sym, ap, ◌∙◌, inl, inr, append_assoc, append-nil, arith}
 use Rattle.rules.specs.declared.ObjectRow.{ObjectRow}
 use Rattle.rules.specs.declared.PlanRow.{PlanRow}
-use Rattle.rules.specs.declared.Planned.{Planned}
+use Rattle.rules.specs.Answers.{Planned, Verdict, Accepted, Refused}
 use Rattle.rules.specs.declared.Table.{Table}
 use Rattle.rules.specs.declared.Refusal.{Refusal}
 use Rattle.rules.specs.declared.Refusal.TheVariants.{CountRange, HoldRange, CostRange, ValidityRange, IdRepeated, NoDeadline}
-use Rattle.rules.specs.declared.Verdict.{Verdict}
-use Rattle.rules.specs.declared.Verdict.TheVariants.{Accepted, Refused}
 use Rattle.rules.specs.Refusals.{◌at_place◌, told, must, first_refusal}
 use Rattle.rules.specs.StoredTable.{no_row, rows_in, in_range, hold_ok, has_id, checks_from, count_verdict, row_verdict, table_verdict}
 use Rattle.rules.specs.Deadlines.{plan_row, no_plan_row, plan_of}

@@ -7,10 +7,8 @@ use Rattle.std.proofs.lemmas.List.{length-map}
 use Rattle.std.proofs.Math.ListN.{get_or-eq_default}
 use Rattle.rules.specs.declared.ObjectRow.{ObjectRow}
 use Rattle.rules.specs.declared.PlanRow.{PlanRow}
-use Rattle.rules.specs.declared.Planned.{Planned}
+use Rattle.rules.specs.Answers.{Planned, Verdict, Accepted, Refused}
 use Rattle.rules.specs.declared.Table.{Table}
-use Rattle.rules.specs.declared.Verdict.{Verdict}
-use Rattle.rules.specs.declared.Verdict.TheVariants.{Accepted, Refused}
 use Rattle.rules.specs.StoredTable.{no_row, rows_in, hold_ok, count_verdict, checks_from, table_verdict}
 use Rattle.rules.specs.Order.{is_ahead, row_at, rows_at, insert_place, places_of, in_order}
 use Rattle.rules.specs.Deadlines.{own_of, need_of, plan_row, no_plan_row, on_accepted, plan_from, plan_of, planned_rows}

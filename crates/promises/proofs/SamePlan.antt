@@ -5,10 +5,8 @@ use Rattle.std.proofs.Common.{sym, ap, ◌∙◌, subst, inl, inr, arith, length
 use Rattle.std.proofs.Math.Seq.{take-append_seam}
 use Rattle.rules.specs.declared.ObjectRow.{ObjectRow}
 use Rattle.rules.specs.declared.PlanRow.{PlanRow}
-use Rattle.rules.specs.declared.Planned.{Planned}
+use Rattle.rules.specs.Answers.{Planned, Verdict, Accepted, Refused}
 use Rattle.rules.specs.declared.Table.{Table}
-use Rattle.rules.specs.declared.Verdict.{Verdict}
-use Rattle.rules.specs.declared.Verdict.TheVariants.{Accepted, Refused}
 use Rattle.rules.specs.StoredTable.{no_row, table_verdict}
 use Rattle.rules.specs.Refusals.{◌at_place◌, told}
 use Rattle.rules.specs.Order.{in_order}

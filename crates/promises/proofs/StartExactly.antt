@@ -5,10 +5,8 @@ use Rattle.std.proofs.Common.{ap, ◌∙◌, subst, inl, inr, arith, eqb-true, e
 use Rattle.std.proofs.Math.Decide.{dec_lt}
 use Rattle.std.proofs.lemmas.Bool.{eqb-false}
 use Rattle.rules.specs.declared.PlanRow.{PlanRow}
-use Rattle.rules.specs.declared.Planned.{Planned}
+use Rattle.rules.specs.Answers.{Planned, Verdict, Accepted, Refused}
 use Rattle.rules.specs.declared.Refusal.TheVariants.{FirstsCount, FirstRange}
-use Rattle.rules.specs.declared.Verdict.{Verdict}
-use Rattle.rules.specs.declared.Verdict.TheVariants.{Accepted, Refused}
 use Rattle.rules.specs.Refusals.{Told, told, must, first_refusal}
 use Rattle.rules.specs.Deadlines.{planned_rows}
 use Rattle.rules.specs.Run.{started_run, firsts_from, firsts_verdict, started, started_from}

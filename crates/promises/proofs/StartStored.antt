@@ -9,12 +9,9 @@ use Rattle.rules.specs.declared.ObjectRow.{ObjectRow}
 use Rattle.rules.specs.declared.PlanRow.{PlanRow}
 use Rattle.rules.specs.declared.Table.{Table}
 use Rattle.rules.specs.declared.StoredTable.{StoredTable}
-use Rattle.rules.specs.declared.ReadStored.{ReadStored}
-use Rattle.rules.specs.declared.Started.{Started}
+use Rattle.rules.specs.Answers.{ReadStored, Started, Verdict, Accepted, Refused}
 use Rattle.rules.specs.declared.Refusal.{Refusal}
 use Rattle.rules.specs.declared.Refusal.TheVariants.{NoDeadline}
-use Rattle.rules.specs.declared.Verdict.{Verdict}
-use Rattle.rules.specs.declared.Verdict.TheVariants.{Accepted, Refused}
 use Rattle.rules.specs.Refusals.{Told, ◌at_place◌, told}
 use Rattle.rules.specs.StoredTable.{no_row, count_of, record_size, form_of, records_start, row_of, first_at, stored_rows, stored_firsts, stored_of}
 use Rattle.rules.specs.StoredTable.{table_verdict, trailer_verdict, read_verdict, read_answer, read_of}

@@ -14,8 +14,7 @@ use Rattle.rules.specs.declared.RunRow.{RunRow}
 use Rattle.rules.specs.declared.Run.{Run}
 use Rattle.rules.specs.declared.Refusal.TheVariants.{FirstsCount, FirstRange}
 use Rattle.rules.specs.declared.Table.{Table}
-use Rattle.rules.specs.declared.Verdict.{Verdict}
-use Rattle.rules.specs.declared.Verdict.TheVariants.{Accepted, Refused}
+use Rattle.rules.specs.Answers.{Verdict, Accepted, Refused}
 use Rattle.rules.specs.Deadlines.{no_plan_row, plan_of, planned_rows}
 use Rattle.rules.specs.RunState.{row_none, every, acceptable}
 use Rattle.rules.specs.Run.{no_run_row, start_row, start_rows, started_run, firsts_from, firsts_verdict, started, start_of}

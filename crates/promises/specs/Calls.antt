@@ -2,7 +2,7 @@
 -- Assumes nothing.
 use Rattle.std.specs.Prelude.{ℕ, Bool, false, List, [], ◌∷◌, ◌++◌, map, length, get_or}
 use Rattle.rules.specs.declared.Run.{Run}
-use Rattle.rules.specs.declared.Stepped.{Stepped}
+use Rattle.rules.specs.Answers.{Stepped}
 use Rattle.rules.specs.Run.{stepped, stepped_of, is_stolen, advanced_of}
 
 -- a call: one slot, with whether it is stolen, or many, with a byte for each

@@ -5,8 +5,8 @@ use Rattle.std.proofs.Math.Option.{Option, none, some}
 use Rattle.rules.specs.declared.ObjectRow.{ObjectRow}
 use Rattle.rules.specs.declared.RunRow.{RunRow}
 use Rattle.rules.specs.declared.Run.{Run}
-use Rattle.rules.specs.declared.Reading.{Reading}
-use Rattle.rules.specs.declared.Reading.TheVariants.{Never, Stale, Fresh}
+use Rattle.rules.specs.Readings.{Reading}
+use Rattle.rules.specs.Readings.{Never, Stale, Fresh}
 use Rattle.rules.specs.StoredTable.{table_of}
 use Rattle.rules.specs.RunState.{in_hold, any, one_hold, used_rows, row_ok, row_none, every, not_in, distinct, acceptable}
 use Rattle.rules.specs.Run.{start_of, released_of, step_one, served_of, serve_first, may_work, aged_of, slot_of, is_stolen, slots_of, advanced_of}

@@ -6,7 +6,7 @@ use Rattle.std.specs.Prelude.{ℕ, suc, ◌+◌, ◌^◌, ◌≤◌, ◌<◌, �
 use Rattle.std.proofs.Math.Option.{some}
 use Rattle.std.proofs.Math.ListN.{get_elem?}
 use Words.*
-use Rattle.rules.specs.declared.Reading.TheVariants as reading
+use Rattle.rules.specs.Readings as reading
 
 -- ── Demand 2 ──
 

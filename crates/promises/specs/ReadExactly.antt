@@ -7,8 +7,8 @@ use Rattle.rules.specs.declared.RunRow.{RunRow}
 use Rattle.rules.specs.declared.Run.{Run}
 use Rattle.rules.specs.declared.Stored.{Stored}
 use Rattle.rules.specs.declared.Stored.TheVariants.{Empty, Held, Lapsed}
-use Rattle.rules.specs.declared.Reading.{Reading}
-use Rattle.rules.specs.declared.Reading.TheVariants.{Refused}
+use Rattle.rules.specs.Readings.{Reading}
+use Rattle.rules.specs.Readings.{Refused}
 use Rattle.rules.specs.declared.Refusal.{Refusal}
 use Rattle.rules.specs.declared.Refusal.TheVariants.{NotRunState, NoSuchId}
 use Rattle.rules.specs.RunState.{used_rows, acceptable}

@@ -1,15 +1,15 @@
 -- Writing and reading are the two ways of one road, in both stored forms: what is written reads back as the same form, rows and first
 -- releases in the same order, and a table that reads and has no unread bytes, written again, gives the same bytes.
 -- Assumes nothing but what each statement says. Bytes are lists of numbers below 256.
-use Rattle.std.specs.Prelude.{ℕ, zero, suc, ◌+◌, ◌-◌, ◌*◌, ◌/◌, ◌%◌, ◌≤◌, ◌<◌, ◌≡◌, refl, Bool, true, false, cond, List, [], ◌∷◌, ◌++◌, eqb, length, take, drop, get_or}
+use Rattle.std.specs.Prelude.{ℕ, zero, suc, ◌+◌, ◌-◌, ◌*◌, ◌/◌, ◌%◌, ◌≤◌, ◌<◌, ◌≡◌, refl, Bool, true, false, cond, List, [], ◌∷◌, ◌++◌, eqb, length, take, drop, get_or, Option, Some, None}
 use Rattle.std.proofs.Common.{sym, ap, ap₂, ◌∙◌, append_assoc, mul-zero, mul-suc, arith, add-one, le-leb, eqb-true, eq-eqb, length-append, length-drop, take-append-drop, get_or-append-add, drop-drop, take-add, drop-cons, take_all, length-take-le}
 use Rattle.std.proofs.Math.Seq.{take-append_seam}
 use Rattle.rules.specs.declared.ObjectRow.{ObjectRow}
 use Rattle.rules.specs.declared.Form.{Form}
-use Rattle.rules.specs.declared.Form.TheVariants.{NoForm, One, Two}
+use Rattle.rules.specs.declared.Form.TheVariants.{One, Two}
 use Rattle.rules.specs.declared.StoredTable.{StoredTable}
 use Rattle.rules.specs.declared.Refusal.TheVariants.{WrongMark, FirstUsed}
-use Rattle.rules.specs.declared.Verdict.TheVariants.{Accepted}
+use Rattle.rules.specs.Answers.{Accepted}
 use Rattle.rules.specs.StoredTable.{table_of, padded, rows_in, le16, le32, distance_of, count_of, mark_of, form_mark, first_size, record_size}
 use Rattle.rules.specs.StoredTable.{table_size, form_of, is_form, row_of, first_at, records_of, records_start, stored_rows, stored_firsts, stored_of}
 use Rattle.rules.specs.StoredTable.{count_verdict, checks_from, table_verdict, trailer_verdict, read_verdict, read_of}
@@ -24,10 +24,10 @@ use Rattle.rules.proofs.Trailer.{in_order_law}
 -- ── The first releases that a form has a place for ──
 
 -- form one has none, so it reads as 0
-abbrev HasPlace : Form → ℕ → Type 0
-HasPlace NoForm x = x ≡ 0
-HasPlace One x = x ≡ 0
-HasPlace Two x = Unit {0}
+abbrev HasPlace : Option Form → ℕ → Type 0
+HasPlace None x = x ≡ 0
+HasPlace (Some One) x = x ≡ 0
+HasPlace (Some Two) x = Unit {0}
 
 unused_zero : (at : ℕ) (xs : List ℕ) → unused_from at xs ≡ Accepted → Every (λ x. x ≡ 0) xs
 unused_zero at [] e = tt
@@ -39,28 +39,28 @@ pub zero_unused : (at : ℕ) (xs : List ℕ) → Every (λ x. x ≡ 0) xs → un
 zero_unused at [] z = refl
 zero_unused at (x ∷ xs) z = rw (eq-eqb x 0 z.0) (zero_unused (at + 1) xs z.1)
 
-any_place : (xs : List ℕ) → Every (HasPlace Two) xs
+any_place : (xs : List ℕ) → Every (HasPlace (Some Two)) xs
 any_place [] = tt
 any_place (x ∷ xs) = (tt, any_place xs)
 
 -- 18 passed: there is a place for each
-placed : (form : Form) (xs : List ℕ) → is_form form ≡ true → unused_verdict form xs ≡ Accepted → Every (HasPlace form) xs
-placed NoForm xs f e = let z : ◌≡◌ {A = ℕ} 0 1 = cc in absurd (omega arith)
-placed One xs f e = unused_zero 0 xs e
-placed Two xs f e = any_place xs
+placed : (form : Option Form) (xs : List ℕ) → is_form form ≡ true → unused_verdict form xs ≡ Accepted → Every (HasPlace form) xs
+placed None xs f e = let z : ◌≡◌ {A = ℕ} 0 1 = cc in absurd (omega arith)
+placed (Some One) xs f e = unused_zero 0 xs e
+placed (Some Two) xs f e = any_place xs
 
-pub in_place : (form : Form) (xs : List ℕ) → Every (HasPlace form) xs → unused_verdict form xs ≡ Accepted
-in_place NoForm xs h = refl
-in_place One xs h = zero_unused 0 xs h
-in_place Two xs h = refl
+pub in_place : (form : Option Form) (xs : List ℕ) → Every (HasPlace form) xs → unused_verdict form xs ≡ Accepted
+in_place None xs h = refl
+in_place (Some One) xs h = zero_unused 0 xs h
+in_place (Some Two) xs h = refl
 
 -- what is read of a form has its place there
-first_placed : (form : Form) (s : List ℕ) (at : ℕ) → HasPlace form (first_at form s at)
-first_placed NoForm s at = refl
-first_placed One s at = refl
-first_placed Two s at = tt
+first_placed : (form : Option Form) (s : List ℕ) (at : ℕ) → HasPlace form (first_at form s at)
+first_placed None s at = refl
+first_placed (Some One) s at = refl
+first_placed (Some Two) s at = tt
 
-pub firsts_placed : (form : Form) (size : ℕ) (s : List ℕ) (at n : ℕ) → Every (HasPlace form) (records_of (first_at form) size s at n)
+pub firsts_placed : (form : Option Form) (size : ℕ) (s : List ℕ) (at n : ℕ) → Every (HasPlace form) (records_of (first_at form) size s at n)
 firsts_placed form size s at zero = tt
 firsts_placed form size s at (suc n) =
     every_append (HasPlace form) (records_of (first_at form) size s at n) (first_at form s (at + size * n) ∷ [])
@@ -83,7 +83,7 @@ module _ (xs ys : List ℕ) (at i : ℕ) (place : at ≡ length xs + i) where
 -- ── Written, then read ──
 
 -- a record reads as its row, its spare field as the hold, and as its first release
-module _ (form : Form) (xs : List ℕ) (r : ObjectRow) (x : ℕ) (ys : List ℕ) (at : ℕ) (e : at ≡ length xs + 0) where
+module _ (form : Option Form) (xs : List ℕ) (r : ObjectRow) (x : ℕ) (ys : List ℕ) (at : ℕ) (e : at ≡ length xs + 0) where
   row_back : Ranged r → row_of (xs ++ (record_bytes form r x ++ ys)) at ≡ r
   row_back g =
       let s = record_bytes form r x ++ ys in
@@ -99,10 +99,10 @@ module _ (form : Form) (xs : List ℕ) (r : ObjectRow) (x : ℕ) (ys : List ℕ)
   first_back : HasPlace form x → first_at form (xs ++ (record_bytes form r x ++ ys)) at ≡ x
   first_back = by_form form
     where
-      by_form : (f : Form) → HasPlace f x → first_at f (xs ++ (record_bytes f r x ++ ys)) at ≡ x
-      by_form NoForm h = sym h
-      by_form One h = sym h
-      by_form Two h = le32_behind xs (record_bytes Two r x ++ ys) (at + 12) 12 (omega arith) ∙ omega arith
+      by_form : (f : Option Form) → HasPlace f x → first_at f (xs ++ (record_bytes f r x ++ ys)) at ≡ x
+      by_form None h = sym h
+      by_form (Some One) h = sym h
+      by_form (Some Two) h = le32_behind xs (record_bytes (Some Two) r x ++ ys) (at + 12) 12 (omega arith) ∙ omega arith
 
 -- records from the first on
 records_cons : {A : Type 0} (f : List ℕ → ℕ → A) (size : ℕ) (s : List ℕ) (at n : ℕ)
@@ -113,11 +113,11 @@ records_cons f size s at (suc n) =
     rw (records_cons f size s at n, e)
 
 -- the rows and the first releases of records that stand anywhere in the bytes s
-record Back (form : Form) (s : List ℕ) (at : ℕ) (rows : List ObjectRow) (firsts : List ℕ) : Type 0 where
+record Back (form : Option Form) (s : List ℕ) (at : ℕ) (rows : List ObjectRow) (firsts : List ℕ) : Type 0 where
   rows_are : records_of row_of (record_size form) s at (length rows) ≡ rows
   firsts_are : records_of (first_at form) (record_size form) s at (length rows) ≡ firsts
 
-all_back : (form : Form) (s xs : List ℕ) (rows : List ObjectRow) (firsts ys : List ℕ) (at : ℕ)
+all_back : (form : Option Form) (s xs : List ℕ) (rows : List ObjectRow) (firsts ys : List ℕ) (at : ℕ)
     → Every Ranged rows → Every (HasPlace form) firsts → length firsts ≡ length rows
     → s ≡ xs ++ (records_bytes form rows firsts ++ ys) → at ≡ length xs + 0 → Back form s at rows firsts
 all_back form s xs [] [] ys at g h n e p = record { rows_are = refl; firsts_are = refl }
@@ -143,27 +143,27 @@ all_back form s xs (r ∷ rs) (x ∷ fs) ys at g h n e p =
     }
 
 -- 64 records and the trailer are well below 4,096 bytes
-size_small : (form : Form) (n : ℕ) → n ≤ 64 → table_size form n ≤ 1032
-size_small NoForm n h = omega arith
-size_small One n h = omega arith
-size_small Two n h = omega arith
+size_small : (form : Option Form) (n : ℕ) → n ≤ 64 → table_size form n ≤ 1032
+size_small None n h = omega arith
+size_small (Some One) n h = omega arith
+size_small (Some Two) n h = omega arith
 
-form_marked : (form : Form) (s : List ℕ) → is_form form ≡ true → mark_of s ≡ form_mark form → form_of s ≡ form
-form_marked NoForm s f e = let z : ◌≡◌ {A = ℕ} 0 1 = cc in absurd (omega arith)
-form_marked One s f e = rw e
-form_marked Two s f e = rw e
+form_marked : (form : Option Form) (s : List ℕ) → is_form form ≡ true → mark_of s ≡ form_mark form → form_of s ≡ form
+form_marked None s f e = let z : ◌≡◌ {A = ℕ} 0 1 = cc in absurd (omega arith)
+form_marked (Some One) s f e = rw e
+form_marked (Some Two) s f e = rw e
 
 -- and back: the mark is that of the form
 mark_of_law : (s : List ℕ) → is_form (form_of s) ≡ true → form_mark (form_of s) ≡ mark_of s
-mark_of_law s = by_one (eqb (mark_of s) (form_mark One)) refl (eqb (mark_of s) (form_mark Two)) refl
+mark_of_law s = by_one (eqb (mark_of s) (form_mark (Some One))) refl (eqb (mark_of s) (form_mark (Some Two))) refl
   where
-    by_one : (a : Bool) → eqb (mark_of s) (form_mark One) ≡ a → (b : Bool) → eqb (mark_of s) (form_mark Two) ≡ b
-        → is_form (cond a One (cond b Two NoForm)) ≡ true → form_mark (cond a One (cond b Two NoForm)) ≡ mark_of s
-    by_one true p b q e = sym (eqb-true (mark_of s) (form_mark One) p)
-    by_one false p true q e = sym (eqb-true (mark_of s) (form_mark Two) q)
+    by_one : (a : Bool) → eqb (mark_of s) (form_mark (Some One)) ≡ a → (b : Bool) → eqb (mark_of s) (form_mark (Some Two)) ≡ b
+        → is_form (cond a (Some One) (cond b (Some Two) None)) ≡ true → form_mark (cond a (Some One) (cond b (Some Two) None)) ≡ mark_of s
+    by_one true p b q e = sym (eqb-true (mark_of s) (form_mark (Some One)) p)
+    by_one false p true q e = sym (eqb-true (mark_of s) (form_mark (Some Two)) q)
     by_one false p false q e = let z : ◌≡◌ {A = ℕ} 0 1 = cc in absurd (omega arith)
 
-module _ (form : Form) (rows : List ObjectRow) (firsts : List ℕ) (of_form : is_form form ≡ true) (few : length rows ≤ 64) where
+module _ (form : Option Form) (rows : List ObjectRow) (firsts : List ℕ) (of_form : is_form form ≡ true) (few : length rows ≤ 64) where
   abbrev records : List ℕ
   records = records_bytes form rows firsts
 
@@ -258,17 +258,17 @@ module _ (s : List ℕ) (bytes : Every (λ b. b < 256) s) where
       let behind = joined spare numbers ∙ rw p at (parts (at + 2) 2 8) in
       joined (two_bytes at (omega arith)) behind ∙ parts at 2 10
 
-  a_first : (form : Form) (at : ℕ) → at + record_size form ≤ length s
+  a_first : (form : Option Form) (at : ℕ) → at + record_size form ≤ length s
       → first_bytes form (first_at form s at) ≡ take (first_size form) (drop (at + 12) s)
-  a_first NoForm at h = refl
-  a_first One at h = refl
-  a_first Two at h = four_bytes (at + 12) (omega arith)
+  a_first None at h = refl
+  a_first (Some One) at h = refl
+  a_first (Some Two) at h = four_bytes (at + 12) (omega arith)
 
-  a_record : (form : Form) (at : ℕ) → at + record_size form ≤ length s
+  a_record : (form : Option Form) (at : ℕ) → at + record_size form ≤ length s
       → record_bytes form (row_of s at) (first_at form s at) ≡ take (record_size form) (drop at s)
   a_record form at h = joined (a_row at (omega arith)) (a_first form at h) ∙ parts at 12 (first_size form)
 
-  the_records : (form : Form) (at n : ℕ) → at + record_size form * n ≤ length s
+  the_records : (form : Option Form) (at n : ℕ) → at + record_size form * n ≤ length s
       → records_bytes form (records_of row_of (record_size form) s at n) (records_of (first_at form) (record_size form) s at n)
       ≡ take (record_size form * n) (drop at s)
   the_records form at zero h = rw (mul-zero (record_size form))
@@ -283,7 +283,7 @@ module _ (s : List ℕ) (bytes : Every (λ b. b < 256) s) where
 -- bytes that read may be written
 module _ (s : List ℕ) (reads : read_verdict s ≡ Accepted) where
   -- what was read may be written in a form that has a place for its first releases, into a buffer that has room
-  pub writes : (form : Form) (size : ℕ) → is_form form ≡ true → unused_verdict form (stored_firsts s) ≡ Accepted
+  pub writes : (form : Option Form) (size : ℕ) → is_form form ≡ true → unused_verdict form (stored_firsts s) ≡ Accepted
       → table_size form (count_of s) ≤ size
       → write_verdict (record { form = form; table = (stored_of s).table; firsts = (stored_of s).firsts }) size ≡ Accepted
   writes form size of_form unused room =

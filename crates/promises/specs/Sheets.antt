@@ -5,11 +5,9 @@ use Rattle.std.specs.Prelude.{ℕ, ◌*◌, ◌≤◌, ◌≡◌, refl, Bool, tr
 use Rattle.std.proofs.Common.{ap, ap₂, ◌∙◌, arith, le-leb, length-append, length-take, length-take-le}
 use Rattle.std.proofs.Math.Seq.{take-append_seam}
 use Rattle.rules.specs.declared.ObjectRow.{ObjectRow}
-use Rattle.rules.specs.declared.ReadTable.{ReadTable}
+use Rattle.rules.specs.Answers.{ReadTable, Verdict, Accepted, Refused}
 use Rattle.rules.specs.declared.Table.{Table}
 use Rattle.rules.specs.declared.Refusal.TheVariants.{TooLong}
-use Rattle.rules.specs.declared.Verdict.{Verdict}
-use Rattle.rules.specs.declared.Verdict.TheVariants.{Accepted, Refused}
 use Rattle.rules.specs.StoredTable.{most_bytes, table_of, rows_in, refused_read, answer, count_verdict, checks_from, checks_of, table_verdict, door_of}
 use Rattle.rules.specs.Writing.{room_verdict, told_of, left_of}
 use Rattle.rules.specs.Sheet.{line_bytes, sheet_bytes, Lines, all_rows, bad_line, lines_of, lines_answer, import_of, export_verdict, exported_of, sheet_after}

@@ -1,8 +1,7 @@
 -- Words: the grounds on which a start from stored bytes is accepted or refused, and where a record stands in them. Assumes nothing.
 use Rattle.std.specs.Prelude.{ℕ, ◌+◌, ◌*◌, ◌≡◌, List}
-use Rattle.rules.specs.declared.ReadStored.{ReadStored}
+use Rattle.rules.specs.Answers.{ReadStored, Accepted, Refused}
 use Rattle.rules.specs.declared.Refusal.{Refusal}
-use Rattle.rules.specs.declared.Verdict.TheVariants.{Accepted, Refused}
 use Rattle.rules.specs.Refusals.{Told, told}
 use Rattle.rules.specs.StoredTable.{record_size, form_of, records_start}
 use Rattle.rules.specs.Order.{firsts_in_order}

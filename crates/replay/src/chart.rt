@@ -1,182 +1,143 @@
-// The chart: a column for each of the last 100 slots, and for each object a line for its job and a line for its value.
-ghost use Rattle.std.specs.Prelude.{◌≤◌};
-
-use super::tallies::{job_sign, value_sign};
-use printing::{end, put, put_number, put_padded, put_text};
+// The chart: a column for each of up to 100 slots, and for each object a line for its job and a line for its value.
+use super::turns::Turn;
+use printing::Line;
 use rules::Run;
+use std::alloc::{AllocError, Global};
+
+// The widest chart has so many columns.
+const COLUMNS: usize = 100;
+
+// The columns before the signs.
+const MARGIN: usize = 7;
+
+// The signs of an object's job and of its value, column by column.
+#[derive(Drop)]
+struct Signs {
+    job: Vec<u8>,
+    value: Vec<u8>,
+}
+
+// What is drawn so far: the slots from `first` on, which of them were stolen, and the objects' signs.
+#[derive(Drop)]
+pub(crate) struct Chart {
+    first: usize,
+    marks: Vec<u8>,
+    objects: Vec<Signs>,
+}
 
 // The first slot that is drawn: `from`, or where that is not within the run the one from which on its last 100 are drawn.
-pub(crate) fn first_drawn(slots: usize, from: usize) -> usize
-    ensures { result ≤ slots }
-{
-    if from < slots {
-        from
-    } else if slots < 100 {
-        0
-    } else {
-        slots - 100
+fn first_drawn(slots: usize, from: Option<usize>) -> usize {
+    from.filter(|from| *from < slots)
+        .unwrap_or(slots.saturating_sub(COLUMNS))
+}
+
+impl Chart {
+    // The chart of a run of so many slots, with no slot yet.
+    pub(crate) fn new(
+        alloc: Global,
+        run: &Run,
+        slots: usize,
+        from: Option<usize>,
+    ) -> Result<Chart, AllocError> {
+        let mut objects = Vec::new(alloc);
+        for _ in run.used() {
+            objects.push(Signs {
+                job: Vec::new(alloc),
+                value: Vec::new(alloc),
+            })?;
+        }
+        Ok(Chart {
+            first: first_drawn(slots, from),
+            marks: Vec::new(alloc),
+            objects,
+        })
+    }
+
+    // Draws a slot, if it is one of the chart's.
+    pub(crate) fn draw(
+        &mut self,
+        turns: &[Turn],
+        slot: usize,
+        stolen: bool,
+    ) -> Result<(), AllocError> {
+        if slot < self.first || COLUMNS <= self.marks.len() {
+            return Ok(());
+        }
+        self.marks.push(if stolen { b'x' } else { b'.' })?;
+        for (signs, turn) in self.objects.iter_mut().zip(turns) {
+            signs.job.push(turn.job_sign())?;
+            signs.value.push(turn.value_sign())?;
+        }
+        Ok(())
+    }
+
+    pub(crate) fn print(&self, rt: &impl Print, run: &Run, slots: usize) -> std::io::Result<()> {
+        print_legend(rt)?;
+        self.print_part(rt, slots)?;
+        self.print_ruler(rt)?;
+        self.print_marks(rt)?;
+        for (row, signs) in run.used().iter().zip(&self.objects) {
+            signs.print(rt, row.planned.id)?;
+        }
+        Ok(())
+    }
+
+    // Which slots the chart shows, if not all.
+    fn print_part(&self, rt: &impl Print, slots: usize) -> std::io::Result<()> {
+        let width = self.marks.len();
+        let first = self.first;
+        if width < slots {
+            println!(rt;
+                "{width} of {slots} slots, from slot {first} on (--from SLOT shows others)"
+            )?;
+        }
+        Ok(())
+    }
+
+    // The line that numbers the slots: a mark and the number of each tenth one.
+    fn print_ruler(&self, rt: &impl Print) -> std::io::Result<()> {
+        let mut line = Line::new();
+        line.text(b"  slot ");
+        for (column, slot) in (MARGIN..MARGIN + self.marks.len()).zip(self.first..) {
+            if slot % 10 == 0 {
+                line.blanks_to(column);
+                line.put(b'|');
+                line.number(slot as u64);
+            }
+        }
+        line.end(rt)
+    }
+
+    // The line of stolen slots.
+    fn print_marks(&self, rt: &impl Print) -> std::io::Result<()> {
+        let mut line = Line::new();
+        line.text(b"stolen ");
+        line.text(self.marks.as_slice());
+        line.end(rt)
     }
 }
 
-// How many slots are drawn, of those that are left.
-fn width_of(left: usize) -> usize
-    ensures { (result ≤ left) × (result ≤ 100) }
-{
-    if left < 100 { left } else { 100 }
-}
-
-// Whether the slot of a column is stolen.
-pub(crate) fn mark(marks: &mut [u8; 100], column: usize, taken: bool) {
-    if column < 100 {
-        if taken {
-            marks[column] = b'x';
-        } else {
-            marks[column] = b'.';
-        }
-    }
-}
-
-fn set_sign(signs: &mut [u8; 6400], row: usize, column: usize, sign: u8) {
-    if row < 64 {
-        if column < 100 {
-            signs[100 * row + column] = sign;
-        }
-    }
-}
-
-fn sign_at(signs: &[u8; 6400], row: usize, column: usize) -> u8 {
-    if row < 64 {
-        if column < 100 {
-            return signs[100 * row + column];
-        }
-    }
-    b' '
-}
-
-// What the slot of a column did to each object.
-pub(crate) fn draw(
-    jobs: &mut [u8; 6400],
-    values: &mut [u8; 6400],
-    column: usize,
-    before: Run,
-    after: Run,
-) {
-    for i in 0..64usize {
-        if i < before.count {
-            let was = before.rows[i];
-            let is = after.rows[i];
-            set_sign(jobs, i, column, job_sign(before.clock, was, is));
-            set_sign(values, i, column, value_sign(is));
-        }
+impl Signs {
+    // The two lines of an object.
+    fn print(&self, rt: &impl Print, id: u16) -> std::io::Result<()> {
+        let mut upper = Line::new();
+        upper.padded(u64::from(id), MARGIN - 1);
+        upper.blanks_to(MARGIN);
+        upper.text(self.job.as_slice());
+        upper.end(rt)?;
+        let mut lower = Line::new();
+        lower.blanks_to(MARGIN);
+        lower.text(self.value.as_slice());
+        lower.end(rt)
     }
 }
 
 // What the signs mean.
-fn print_legend() {
-    printing::text(
-        b"Objects in priority order: a job waits for those above it, for one below it that is in its hold, or for a slot that is not stolen.\n\
-job:   R released and ran    # ran    * ran, a release skipped    H, % as # and *, in its hold    . no job in hand\n\
-\x20      r released and waits  - waits  ! waits, a release skipped\n\
-value: = fresh  ? stale  blank: none yet      stolen slots: x\n",
-    );
-}
-
-// Which slots the chart shows, if not all.
-fn print_part(slots: usize, first: usize, width: usize) {
-    if width < slots {
-        printing::filled(
-            b"# of # slots, from slot # on (--from SLOT shows others)\n",
-            0,
-            width as u64,
-            slots as u64,
-            first as u64,
-            0,
-        );
-        printing::byte(b'\n');
-    }
-}
-
-// A mark and the number of each tenth slot; answers where it ends.
-fn put_mark(line: &mut [u8; 160], at: usize, slot: usize) -> usize {
-    if slot % 10 == 0 {
-        let to = put(line, at, b'|');
-        put_number(line, to, slot as u64)
-    } else {
-        0
-    }
-}
-
-// The line that numbers the slots.
-fn print_ruler(first: usize, width: usize) {
-    let mut line = [b' '; 160];
-    let mut last = put_text(&mut line, 0, b"  slot ");
-    for c in 0..100usize {
-        if c < width {
-            let to = put_mark(&mut line, c + 7, std::num::wrapping_add_usize(first, c));
-            if last < to {
-                last = to;
-            }
-        }
-    }
-    end(&mut line, last);
-}
-
-// The line of stolen slots.
-fn print_marks(marks: &[u8; 100], width: usize) {
-    let mut line = [b' '; 160];
-    let mut at = put_text(&mut line, 0, b"stolen ");
-    for c in 0..100usize {
-        if c < width {
-            at = put(&mut line, at, marks[c]);
-        }
-    }
-    end(&mut line, at);
-}
-
-// The signs of an object, from column 7 of a line on.
-fn end_signs(line: &mut [u8; 160], signs: &[u8; 6400], row: usize, width: usize) {
-    let mut at = 7;
-    for c in 0..100usize {
-        if c < width {
-            at = put(line, at, sign_at(signs, row, c));
-        }
-    }
-    end(line, at);
-}
-
-// The two lines of an object.
-fn print_object(id: u16, jobs: &[u8; 6400], values: &[u8; 6400], row: usize, width: usize) {
-    let mut upper = [b' '; 160];
-    put_padded(&mut upper, 0, id as u64, 6);
-    end_signs(&mut upper, jobs, row, width);
-    let mut lower = [b' '; 160];
-    end_signs(&mut lower, values, row, width);
-}
-
-fn print_objects(run: Run, jobs: &[u8; 6400], values: &[u8; 6400], width: usize) {
-    for i in 0..64usize {
-        if i < run.count {
-            let row = run.rows[i];
-            print_object(row.planned.id, jobs, values, i, width);
-        }
-    }
-}
-
-pub(crate) fn print(
-    run: Run,
-    slots: usize,
-    first: usize,
-    jobs: &[u8; 6400],
-    values: &[u8; 6400],
-    marks: &[u8; 100],
-) {
-    if slots < first {
-        return;
-    }
-    let width = width_of(slots - first);
-    print_legend();
-    print_part(slots, first, width);
-    print_ruler(first, width);
-    print_marks(marks, width);
-    print_objects(run, jobs, values, width);
+fn print_legend(rt: &impl Print) -> std::io::Result<()> {
+    print!(rt;
+        "Objects in priority order: a job waits for those above it, for one below it that is in its hold, or for a slot that is not stolen.\n\
+         job:   R released and ran    # ran    * ran, a release skipped    H, % as # and *, in its hold    . no job in hand\n\
+         \x20      r released and waits  - waits  ! waits, a release skipped\n\
+         value: = fresh  ? stale  blank: none yet      stolen slots: x\n"
+    )
 }

@@ -1,260 +1,123 @@
 // The incidents of a run: which value went stale in which slot and for how long, and who had the core meanwhile.
-use super::tallies;
-use rules::{Run, RunRow, Stored};
+use super::owners::{Owner, Shares};
+use super::turns::Turn;
+use rules::Run;
+use std::alloc::{AllocError, Global};
 
-// One incident: the object's place, the slot of the release that should have renewed the value, the slot that left it stale, and the one that
-// renewed it, 0 while none has.
-#[derive(Clone, Copy)]
+// So many incidents are told; those past them are only counted.
+const TOLD: usize = 20;
+
+// One incident: the object's id, the slot of the release that should have renewed the value, the slot that left it stale, and the one that
+// renewed it, if any did.
+#[derive(Clone, Copy, Debug, PartialEq, Eq)]
 pub(crate) struct Incident {
-    pub row: usize,
+    pub id: u16,
     pub release: u32,
     pub slot: u32,
-    pub end: u32,
+    pub end: Option<u32>,
 }
 
-// The first twenty, and how many there were.
-#[derive(Clone, Copy)]
+// The first of them, and how many there were.
+#[derive(Drop)]
 pub(crate) struct Incidents {
     pub count: usize,
-    pub rows: [Incident; 20],
+    pub first: Vec<Incident>,
 }
 
-pub(crate) fn no_incidents() -> Incidents {
-    let none = Incident {
-        row: 0,
-        release: 0,
-        slot: 0,
-        end: 0,
-    };
-    let rows = [none; 20];
-    Incidents { count: 0, rows }
-}
-
-fn is_stale(row: RunRow) -> bool {
-    let stored = row.stored;
-    match stored {
-        Stored::Lapsed => true,
-        Stored::Empty | Stored::Held(_) => false,
+impl Incidents {
+    pub(crate) fn new(alloc: Global) -> Incidents {
+        Incidents {
+            count: 0,
+            first: Vec::new(alloc),
+        }
     }
-}
 
-// The release of the job that is at hand in a slot, or else the last one.
-fn last_release(clock: u32, before: RunRow) -> u32 {
-    let at_hand = stepping::released(clock, before);
-    if at_hand.left == 0 {
-        std::num::wrapping_sub_u32(before.next, before.planned.period)
-    } else {
-        at_hand.sample
+    // One slot more.
+    pub(crate) fn follow(&mut self, turns: &[Turn]) -> Result<(), AllocError> {
+        for turn in turns {
+            if turn.lapsed() {
+                self.open(turn)?;
+            } else if turn.recovered() {
+                self.close(turn);
+            }
+        }
+        Ok(())
     }
-}
 
-// One incident more. Those past the twentieth are only counted.
-fn opened(all: Incidents, row: usize, release: u32, slot: u32) -> Incidents {
-    let mut rows = all.rows;
-    let at = all.count;
-    if at < 20 {
-        rows[at] = Incident {
-            row,
-            release,
-            slot,
-            end: 0,
-        };
+    // One incident more.
+    fn open(&mut self, turn: &Turn) -> Result<(), AllocError> {
+        if self.first.len() < TOLD {
+            self.first.push(Incident {
+                id: turn.before.planned.id,
+                release: turn.last_release(),
+                slot: turn.slot,
+                end: None,
+            })?;
+        }
+        self.count = self.count.wrapping_add(1);
+        Ok(())
     }
-    Incidents {
-        count: std::num::wrapping_add_usize(at, 1),
-        rows,
-    }
-}
 
-// The open incident of an object ends.
-fn closed(all: Incidents, row: usize, slot: u32) -> Incidents {
-    let mut rows = all.rows;
-    for k in 0..20usize {
-        if k < all.count {
-            if (rows[k].row == row) & (rows[k].end == 0) {
-                rows[k].end = slot;
+    // The open incident of the object ends, if it is told.
+    fn close(&mut self, turn: &Turn) {
+        for incident in self.first.iter_mut() {
+            if incident.id == turn.before.planned.id && incident.end.is_none() {
+                incident.end = Some(turn.slot);
             }
         }
     }
-    Incidents {
-        count: all.count,
-        rows,
-    }
-}
 
-// The incidents after one slot more.
-pub(crate) fn followed(all: Incidents, before: Run, after: Run) -> Incidents {
-    let mut now = all;
-    for i in 0..64usize {
-        if i < before.count {
-            let was = before.rows[i];
-            let is = after.rows[i];
-            let more = followed_row(now, i, before.clock, was, is);
-            now = more;
+    // The incidents that are told; `owners` had the slots of the run.
+    pub(crate) fn print(
+        &self,
+        rt: &impl Print,
+        run: &Run,
+        owners: &[Owner],
+    ) -> std::io::Result<()> {
+        if self.count == 0 {
+            return Ok(());
         }
-    }
-    now
-}
-
-fn followed_row(all: Incidents, row: usize, slot: u32, was: RunRow, is: RunRow) -> Incidents {
-    if is_stale(was) {
-        if is_stale(is) {
-            all
-        } else {
-            closed(all, row, slot)
+        println!(rt;
+            "Values that went stale, and who had the core from the release on that should have renewed them:"
+        )?;
+        for incident in &self.first {
+            incident.print(rt, run, owners)?;
         }
-    } else if is_stale(is) {
-        opened(all, row, last_release(slot, was), slot)
-    } else {
-        all
-    }
-}
-
-// An object that ran: its place, or 66 and its place where it was in its hold.
-fn owner_at(place: u8, held: bool) -> u8 {
-    if held {
-        if place < 64 {
-            return 66 + place;
+        if TOLD < self.count {
+            println!(rt; ".. and {} more", self.count - TOLD)?;
         }
+        Ok(())
     }
-    place
 }
 
-// Who had the core in a slot: the object that ran, 64 for nobody, 65 where the slot was stolen.
-pub(crate) fn owner(before: Run, after: Run, taken: bool) -> u8 {
-    let mut owner = 64;
-    if taken {
-        owner = 65;
-    }
-    for i in 0..64u8 {
-        if (i as usize) < before.count {
-            let was = before.rows[i as usize];
-            let is = after.rows[i as usize];
-            let at_hand = stepping::released(before.clock, was);
-            if tallies::ran(at_hand, is) {
-                owner = owner_at(i, stepping::in_hold(at_hand));
-            }
+impl Incident {
+    // An incident that is open at the end of the run lasts to it.
+    fn print(&self, rt: &impl Print, run: &Run, owners: &[Owner]) -> std::io::Result<()> {
+        let end = self.end.unwrap_or(run.clock);
+        let (id, release, slot) = (self.id, self.release, self.slot);
+        let long = end.wrapping_sub(slot);
+        print!(rt; "slot {slot}: object {id}, released at {release}, slots stale: {long}")?;
+        if self.end.is_none() {
+            print!(rt; ", to the end")?;
         }
-    }
-    owner
-}
-
-pub(crate) fn note(owners: &mut [u8; 1000000], slot: usize, owner: u8) {
-    if slot < 1000000 {
-        owners[slot] = owner;
-    }
-}
-
-fn place_of(owner: u8) -> usize {
-    owner as usize
-}
-
-// How many of the slots from `from` to before `to` went to each.
-fn shares(owners: &[u8; 1000000], from: u32, to: u32) -> [u32; 130] {
-    let mut counts = [0u32; 130];
-    for k in 0..1000000usize {
-        if (from as usize <= k) & (k < to as usize) {
-            let owner = place_of(owners[k]);
-            if owner < 130 {
-                counts[owner] = std::num::wrapping_add_u32(counts[owner], 1);
-            }
-        }
-    }
-    counts
-}
-
-// The pieces of an incident's line.
-fn say(piece: usize, a: u64, b: u64, c: u64, d: u64) {
-    printing::filled(
-        b"\nValues that went stale, and who had the core from the release on that should have renewed them:\n\
-slot #: object #, released at #, slots stale: #; \n\
-slot #: object #, released at #, slots stale: #, to the end; \n\
-stolen #\n\
-, object #: #\n\
-\x20(# in its hold)\n\
-, idle #\n\
-.. and # more\n",
-        piece,
-        a,
-        b,
-        c,
-        d,
-    );
-}
-
-// The share of one object, if there is any, and how much of it was in its hold.
-fn print_share(id: u16, free: u32, held: u32) {
-    let units = std::num::wrapping_add_u32(free, held);
-    if units != 0 {
-        say(5, id as u64, units as u64, 0, 0);
-    }
-    if held != 0 {
-        say(6, held as u64, 0, 0, 0);
+        let meanwhile = owners.get(release as usize..end as usize);
+        print_shares(rt, run, &Shares::of(meanwhile.unwrap_or(&[])))
     }
 }
 
 // Who had the core, the stolen slots first and those of nobody last.
-fn print_shares(run: Run, counts: [u32; 130]) {
-    say(4, tallies::wide(counts[65]), 0, 0, 0);
-    for i in 0..64usize {
-        let row = run.rows[i];
-        print_share(row.planned.id, counts[i], counts[i + 66]);
-    }
-    if counts[64] != 0 {
-        say(7, tallies::wide(counts[64]), 0, 0, 0);
-    }
-    printing::byte(b'\n');
-}
-
-// An incident that is open at the end of the run lasts to it.
-fn print_one(run: Run, incident: Incident, slots: u32, owners: &[u8; 1000000]) {
-    let mut piece = 2;
-    let mut end = incident.end;
-    if end == 0 {
-        piece = 3;
-        end = slots;
-    }
-    let place = incident.row;
-    if place < 64 {
-        let row = run.rows[place];
-        let long = std::num::wrapping_sub_u32(end, incident.slot);
-        say(
-            piece,
-            incident.slot as u64,
-            row.planned.id as u64,
-            incident.release as u64,
-            long as u64,
-        );
-        let counts = shares(owners, incident.release, end);
-        print_shares(run, counts);
-    }
-}
-
-// The incidents, the first twenty of them.
-pub(crate) fn print(run: Run, all: Incidents, slots: usize, owners: &[u8; 1000000]) {
-    if all.count == 0 {
-        return;
-    }
-    say(1, 0, 0, 0, 0);
-    printing::byte(b'\n');
-    let rows = all.rows;
-    for k in 0..20usize {
-        if k < all.count {
-            let one = rows[k];
-            print_one(run, one, short(slots), owners);
+fn print_shares(rt: &impl Print, run: &Run, shares: &Shares) -> std::io::Result<()> {
+    print!(rt; "; stolen {}", shares.stolen)?;
+    for (row, share) in run.used().iter().zip(&shares.objects) {
+        if share.slots != 0 {
+            print!(rt; ", object {}: {}", row.planned.id, share.slots)?;
+        }
+        if share.held != 0 {
+            print!(rt; " ({} in its hold)", share.held)?;
         }
     }
-    if 20 < all.count {
-        say(8, all.count as u64 - 20, 0, 0, 0);
-        printing::byte(b'\n');
+    if shares.nobody != 0 {
+        print!(rt; ", idle {}", shares.nobody)?;
     }
-}
-
-// No run is longer than 1,000,000 slots.
-fn short(slots: usize) -> u32 {
-    if slots <= 1000000 {
-        slots as u32
-    } else {
-        1000000
-    }
+    println!(rt)
 }

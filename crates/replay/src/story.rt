@@ -1,98 +1,55 @@
-// The run slot by slot: its chart, its tallies and its incidents.
+// The run slot by slot: its chart, its tallies, its incidents, and who had each slot.
+use super::chart::Chart;
 use super::incidents::Incidents;
-use super::tallies::Tallies;
-use super::{chart, incidents, tallies};
+use super::owners::Owner;
+use super::tallies::Tally;
+use super::words::Words;
+use super::{tallies, turns};
 use rules::Run;
+use std::alloc::{AllocError, Global};
 
-// What is told of a run: its last state, the tallies, the incidents, and how many slots were stolen.
-#[derive(Clone, Copy)]
-pub(crate) struct Told {
+// What is told of a run: its last state, who had each of its slots, and so on.
+#[derive(Drop)]
+pub(crate) struct Story {
     pub run: Run,
-    pub tallies: Tallies,
+    pub owners: Vec<Owner>,
+    pub tallies: Vec<Tally>,
     pub incidents: Incidents,
-    pub stolen: u32,
+    pub chart: Chart,
 }
 
-// Whether the slot at this place of the pattern is stolen.
-fn is_stolen(pattern: &[u8], at: usize) -> bool {
-    if at < pattern.len() {
-        pattern[at] == b'x'
-    } else {
-        false
+impl Story {
+    // A run that has not begun.
+    fn new(alloc: Global, run: Run, words: &Words) -> Result<Story, AllocError> {
+        let objects = run.used().len();
+        Ok(Story {
+            run,
+            owners: Vec::with_capacity(alloc, words.slots)?,
+            tallies: vec![in alloc; Tally::default(); objects]?,
+            incidents: Incidents::new(alloc),
+            chart: Chart::new(alloc, &run, words.slots, words.from)?,
+        })
     }
-}
 
-// The place after `at` in a pattern of `length` signs, which begins again at its end.
-fn place_after(at: usize, length: usize) -> usize {
-    if at < length {
-        if at + 1 < length {
-            return at + 1;
+    // The whole run.
+    pub(crate) fn of(alloc: Global, run: Run, words: &Words) -> Result<Story, AllocError> {
+        let mut story = Story::new(alloc, run, words)?;
+        for stolen in words.stolen.iter().cycle().take(words.slots) {
+            story.go_on(alloc, *stolen)?;
         }
+        Ok(story)
     }
-    0
-}
 
-// One more where the slot is stolen.
-fn counted(stolen: u32, taken: bool) -> u32 {
-    if taken {
-        std::num::wrapping_add_u32(stolen, 1)
-    } else {
-        stolen
-    }
-}
-
-// Draws a slot, if the chart has begun.
-fn draw(
-    jobs: &mut [u8; 6400],
-    values: &mut [u8; 6400],
-    marks: &mut [u8; 100],
-    first: usize,
-    slot: usize,
-    taken: bool,
-    before: Run,
-    after: Run,
-) {
-    if first <= slot {
-        chart::mark(marks, slot - first, taken);
-        chart::draw(jobs, values, slot - first, before, after);
-    }
-}
-
-// Runs the slots, one at a time, notes who had each, and draws those from `first` on.
-pub(crate) fn run_through(
-    run: Run,
-    slots: usize,
-    first: usize,
-    pattern: &[u8],
-    owners: &mut [u8; 1000000],
-    jobs: &mut [u8; 6400],
-    values: &mut [u8; 6400],
-    marks: &mut [u8; 100],
-) -> Told {
-    let mut now = run;
-    let mut all = tallies::no_tallies();
-    let mut stale = incidents::no_incidents();
-    let mut stolen = 0;
-    let mut at = 0;
-    for k in 0..slots {
-        let taken = is_stolen(pattern, at);
-        let stepped = running::slot(now, taken);
-        let after = stepped.run;
-        let owner = incidents::owner(now, after, taken);
-        incidents::note(owners, k, owner);
-        draw(jobs, values, marks, first, k, taken, now, after);
-        let more = tallies::tallied(all, now, after, owner);
-        all = more;
-        let longer = incidents::followed(stale, now, after);
-        stale = longer;
-        now = after;
-        stolen = counted(stolen, taken);
-        at = place_after(at, pattern.len());
-    }
-    Told {
-        run: now,
-        tallies: all,
-        incidents: stale,
-        stolen,
+    // One slot more. A run that was started is never refused one.
+    fn go_on(&mut self, alloc: Global, stolen: bool) -> Result<(), AllocError> {
+        let clock = self.run.clock;
+        let before = self.run.used().to_vec(alloc)?;
+        let _ = running::slot_in_place(&mut self.run, stolen);
+        let turns = turns::between(alloc, clock, &before, self.run.used())?;
+        let owner = Owner::of(&turns, stolen);
+        self.chart.draw(&turns, self.owners.len(), stolen)?;
+        self.owners.push(owner)?;
+        tallies::count(&mut self.tallies, &turns, owner);
+        self.incidents.follow(&turns)
     }
 }

@@ -5,7 +5,7 @@ use mathlib.Core.List.{List, []}
 use native.Mathlib.Omega.{arith}
 use lib.ListN.{length, take}
 use lib.Seq.{take-append_seam, take_at}
-use Rattle.rules.specs.declared.Verdict.TheVariants.{Accepted}
+use Rattle.rules.specs.Answers.{Accepted}
 use Rattle.rules.specs.StoredTable.{record_size, form_of, count_of, records_start, row_of, first_at, stored_rows, stored_firsts, stored_of}
 use Rattle.rules.specs.StoredTable.{rows_in, checks_from, table_verdict, trailer_verdict, read_verdict}
 use Rattle.rules.proofs.Checks.{both_accept, count_in}

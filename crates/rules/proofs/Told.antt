@@ -4,12 +4,11 @@ use mathlib.Core.Path.{◌≡◌, refl, sym, ap, ◌∙◌}
 use mathlib.Core.List.{List, [], ◌∷◌}
 use lib.ListN.{get_or}
 use native.Mathlib.Omega.{arith}
-use Rattle.rules.specs.declared.Reading.{Reading}
-use Rattle.rules.specs.declared.Reading.TheVariants as reading
+use Rattle.rules.specs.Answers.{Verdict, Accepted, Refused}
+use Rattle.rules.specs.Readings.{Reading}
+use Rattle.rules.specs.Readings as reading
 use Rattle.rules.specs.declared.Refusal.{Refusal}
 use Rattle.rules.specs.declared.Refusal.TheVariants.{TooShort, TooLong, WrongMark, CountRange, DistanceSmall, HoldRange, CostRange, ValidityRange, IdRepeated, NoDeadline, FirstsCount, FirstRange, NotRunState, NoSuchId, DistanceLarge, BufferSmall, LineForm, FirstUsed}
-use Rattle.rules.specs.declared.Verdict.{Verdict}
-use Rattle.rules.specs.declared.Verdict.TheVariants.{Accepted, Refused}
 use Rattle.rules.specs.Refusals.{Told, told, reading_told}
 
 -- the verdicts at a place, by their numbers

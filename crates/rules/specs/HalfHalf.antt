@@ -3,7 +3,7 @@
 use Rattle.std.specs.Prelude.{ℕ, ◌/◌, []}
 use Rattle.rules.specs.declared.ObjectRow.{ObjectRow}
 use Rattle.rules.specs.declared.PlanRow.{PlanRow}
-use Rattle.rules.specs.declared.Planned.{Planned}
+use Rattle.rules.specs.Answers.{Planned}
 use Rattle.rules.specs.declared.Table.{Table}
 use Rattle.rules.specs.StoredTable.{table_verdict}
 use Rattle.rules.specs.Order.{in_order}

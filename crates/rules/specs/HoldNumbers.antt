@@ -1,6 +1,6 @@
 -- Request 6 worked out: tables with holds, bytes with holds, and runs in which a job could not be set aside.
 -- Assumes nothing: the definitions are computed.
-use Rattle.std.specs.Prelude.{ℕ, ◌≡◌, refl, Bool, true, false, List, [], ◌∷◌, ◌++◌, map}
+use Rattle.std.specs.Prelude.{ℕ, ◌≡◌, refl, Bool, true, false, List, [], ◌∷◌, ◌++◌, map, Some}
 use Rattle.rules.specs.declared.Form.TheVariants.{One}
 use Rattle.rules.specs.declared.ObjectRow.{ObjectRow}
 use Rattle.rules.specs.declared.RunRow.{RunRow}
@@ -60,7 +60,7 @@ holds_65536 = refl
 -- ── Bytes ──
 
 -- the spare field stores the hold less one; and all its bits are of it
-pub written_holds : table_bytes One (row 2 3 9 3 ∷ row 1 1 4 1 ∷ []) (0 ∷ 0 ∷ []) ≡ stored 2 2 3 9 ++ stored 1 0 1 4 ++ trailer 32 2
+pub written_holds : table_bytes (Some One) (row 2 3 9 3 ∷ row 1 1 4 1 ∷ []) (0 ∷ 0 ∷ []) ≡ stored 2 2 3 9 ++ stored 1 0 1 4 ++ trailer 32 2
 written_holds = refl
 
 pub read_holds : map (λ (s : List ℕ). rows_in (read_of s).stored.table)

@@ -1,6 +1,6 @@
 -- Stored bytes worked out: what is read, refused, written and left in a buffer; document 01's byte examples among them.
 -- Assumes nothing: the definitions are computed.
-use Rattle.std.specs.Prelude.{ℕ, ◌≡◌, refl, List, [], ◌∷◌, ◌++◌, map, replicate}
+use Rattle.std.specs.Prelude.{ℕ, ◌≡◌, refl, List, [], ◌∷◌, ◌++◌, map, replicate, Some}
 use Rattle.rules.specs.declared.Form.TheVariants.{One}
 use Rattle.rules.specs.declared.ObjectRow.{ObjectRow}
 use Rattle.rules.specs.Refusals.{Told, ◌at_place◌, told}
@@ -46,10 +46,10 @@ stored_right = refl
 -- ── Written ──
 
 -- n records in the given order, not in priority order, and the trailer, without gap, the numbers with the low byte first
-pub written_right : table_bytes One (row 2 3 5 ∷ row 1 1 4 ∷ []) (0 ∷ 0 ∷ []) ≡ stored 2 0 3 5 ++ stored 1 0 1 4 ++ trailer 32 2
+pub written_right : table_bytes (Some One) (row 2 3 5 ∷ row 1 1 4 ∷ []) (0 ∷ 0 ∷ []) ≡ stored 2 0 3 5 ++ stored 1 0 1 4 ++ trailer 32 2
 written_right = refl
 
-pub written_low_first : table_bytes One (row 258 66051 1000000 ∷ []) (0 ∷ []) ≡ 2 ∷ 1 ∷ 0 ∷ 0 ∷ 3 ∷ 2 ∷ 1 ∷ 0 ∷ 64 ∷ 66 ∷ 15 ∷ 0 ∷ trailer 20 1
+pub written_low_first : table_bytes (Some One) (row 258 66051 1000000 ∷ []) (0 ∷ []) ≡ 2 ∷ 1 ∷ 0 ∷ 0 ∷ 3 ∷ 2 ∷ 1 ∷ 0 ∷ 64 ∷ 66 ∷ 15 ∷ 0 ∷ trailer 20 1
 written_low_first = refl
 
 -- a buffer of nines after writing: one byte more than needed, one byte less (16), and rows that are refused (7)

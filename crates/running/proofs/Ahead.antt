@@ -1,6 +1,6 @@
 -- Clock values ahead, and what the slots before them leave as it is: a row at which no release is due, or nothing lapses.
 -- Assumes nothing.
-use Rattle.std.proofs.Common.{◌≡◌, ℕ, zero, suc, ◌+◌, ◌-◌, ◌^◌, ◌<◌, ◌≤◌, Bool, true, false, cond, ◌||◌, eqb, ltb, leb, sym, refl, ap, arith, le-ltb, lt-ltb, eq-eqb, ne_eqb}
+use Rattle.std.proofs.Common.{◌≡◌, ℕ, zero, suc, ◌+◌, ◌-◌, ◌^◌, ◌<◌, ◌≤◌, Bool, true, false, cond, ltb, leb, sym, refl, ap, arith, le-ltb, lt-ltb, eq-eqb, ne_eqb}
 use Rattle.rules.specs.declared.RunRow.{RunRow}
 use Rattle.rules.specs.RunState.{age_of, due_in, in_hold}
 use Rattle.rules.specs.Run.{later, tick, released_of, served_of, aged_stored, aged_of, stored_as}
@@ -9,8 +9,8 @@ use Rattle.running.specs.Rests.{Rests}
 
 -- ── The clock ──
 
-pub lasts_law : (clock v s e : ℕ) → age_of clock s < v → e < v - age_of clock s - 1 → age_of (tick (later clock e)) s < v
-lasts_law clock v s e h k = omega arith
+pub lasts_law : (clock v s e : ℕ) → e < v - age_of clock s - 1 → age_of (tick (later clock e)) s < v
+lasts_law clock v s e k = omega arith
 
 pub due_of_sum : (clock n e : ℕ) → clock < 2 ^ 32 → e < due_in clock (later clock n) → e < n
 due_of_sum clock n e h k = omega arith
@@ -57,10 +57,14 @@ aged_same clock row s h = by_left row.left refl
         let z : row.left ≡ 0 → ⊥ = λ w. omega arith in
         simp (ne_eqb _ _ z, s, h z)
 
--- no job is in hand, or its sample has lapsed already
-pub aged_hand_law : (clock : ℕ) (row : RunRow) → aged_stored clock row.planned.validity row.stored ≡ row.stored → eqb row.left 0 || row.lapsed ≡ true → aged_of clock row ≡ row
-aged_hand_law clock row s h =
-    aged_same clock row s (λ n. stays (leb row.planned.validity (age_of clock row.sample)) row.lapsed (rw (ne_eqb _ _ n) at h))
+-- no job is in hand
+pub aged_idle : (clock : ℕ) (row : RunRow) → aged_stored clock row.planned.validity row.stored ≡ row.stored → row.left ≡ 0 → aged_of clock row ≡ row
+aged_idle clock row s e = aged_same clock row s (λ n. absurd (n e))
+
+-- or its sample has lapsed already
+pub aged_lapsed : (clock : ℕ) (row : RunRow) → aged_stored clock row.planned.validity row.stored ≡ row.stored → row.lapsed ≡ true → aged_of clock row ≡ row
+aged_lapsed clock row s e =
+    aged_same clock row s (λ n. stays (leb row.planned.validity (age_of clock row.sample)) row.lapsed e)
   where
     stays : (b l : Bool) → l ≡ true → cond b true l ≡ l
     stays true l e = sym e

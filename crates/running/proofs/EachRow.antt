@@ -1,9 +1,9 @@
 -- The three steps of a slot at the first n rows, and how a loop goes over them from the front. Assumes nothing.
-use Rattle.std.proofs.Common.{◌≡◌, ℕ, zero, suc, ◌+◌, ◌<◌, ◌≤◌, Bool, true, false, cond, not, eqb, List, [], ◌∷◌, ◌++◌, map, length, get_or, take, drop, set, sym, refl, ◌∙◌, add-one, arith, ne_eqb}
+use Rattle.std.proofs.Common.{◌≡◌, ℕ, zero, suc, ◌+◌, ◌<◌, ◌≤◌, Bool, true, false, cond, eqb, List, [], ◌∷◌, ◌++◌, map, length, get_or, take, drop, set, sym, refl, ◌∙◌, add-one, arith, ne_eqb, take-append-drop}
 use lib.Seq.{set-get_or}
 use Rattle.rules.specs.declared.RunRow.{RunRow}
 use Rattle.rules.specs.RunState.{in_hold, any}
-use Rattle.rules.specs.Run.{tick, released_of, served_of, may_work, aged_of, serve_first, slot_rows}
+use Rattle.rules.specs.Run.{tick, released_of, served_of, may_work, serve_first, step_one, step_two, step_three, slot_rows}
 
 -- ── The three steps at the first n rows ──
 
@@ -18,19 +18,19 @@ serve_in p zero l = l
 serve_in p (suc n) [] = []
 serve_in p (suc n) (r ∷ l) = cond (p r) (served_of r ∷ l) (r ∷ serve_in p n l)
 
-each_is : (f : RunRow → RunRow) (n : ℕ) (l : List RunRow) → map f (take n l) ++ drop n l ≡ each_in f n l
+pub each_is : (f : RunRow → RunRow) (n : ℕ) (l : List RunRow) → map f (take n l) ++ drop n l ≡ each_in f n l
 unfolding each_in
 each_is f zero l = refl
 each_is f (suc n) [] = refl
 each_is f (suc n) (r ∷ l) = rw (each_is f n l)
 
-take_each : (f : RunRow → RunRow) (n : ℕ) (l : List RunRow) → take n (each_in f n l) ≡ map f (take n l)
+pub take_each : (f : RunRow → RunRow) (n : ℕ) (l : List RunRow) → take n (each_in f n l) ≡ map f (take n l)
 unfolding each_in
 take_each f zero l = refl
 take_each f (suc n) [] = refl
 take_each f (suc n) (r ∷ l) = rw (take_each f n l)
 
-drop_each : (f : RunRow → RunRow) (n : ℕ) (l : List RunRow) → drop n (each_in f n l) ≡ drop n l
+pub drop_each : (f : RunRow → RunRow) (n : ℕ) (l : List RunRow) → drop n (each_in f n l) ≡ drop n l
 unfolding each_in
 drop_each f zero l = refl
 drop_each f (suc n) [] = refl
@@ -56,14 +56,30 @@ drop_serve p (suc n) (r ∷ l) = step (p r) (drop_serve p n l)
     step true e = refl
     step false e = e
 
--- the slot, step by step; `holding` says whether a row is in its hold after step 1
-pub slot_is : (clock n : ℕ) (holding free : Bool) (l : List RunRow) → any in_hold (take n (each_in (released_of clock) n l)) ≡ holding → slot_rows clock (not free) (take n l) ++ drop n l ≡ each_in (aged_of (tick clock)) n (serve_in (may_work holding) (cond free n 0) (each_in (released_of clock) n l))
+-- step 2 at the first n rows; `holding` says whether one of them is in its hold
+pub serve_is : (stolen : Bool) (n : ℕ) (holding : Bool) (l : List RunRow) → any in_hold (take n l) ≡ holding → step_two stolen (take n l) ++ drop n l ≡ serve_in (may_work holding) (cond stolen 0 n) l
 unfolding serve_in
-slot_is clock n holding true l h =
-    let e = rw (take_each (released_of clock) n l) at h in
-    rw (e, ← each_is (aged_of (tick clock)) n (serve_in (may_work holding) n (each_in (released_of clock) n l)), take_serve (may_work holding) n (each_in (released_of clock) n l), drop_serve (may_work holding) n (each_in (released_of clock) n l), take_each (released_of clock) n l, drop_each (released_of clock) n l)
-slot_is clock n holding false l h =
-    rw (← each_is (aged_of (tick clock)) n (each_in (released_of clock) n l), take_each (released_of clock) n l, drop_each (released_of clock) n l)
+serve_is true n holding l h = take-append-drop n l
+serve_is false n holding l h =
+    rw (h, ← take_serve (may_work holding) n l, ← drop_serve (may_work holding) n l) (take-append-drop n (serve_in (may_work holding) n l))
+
+take_two : (stolen : Bool) (n : ℕ) (l : List RunRow) → take n (step_two stolen (take n l) ++ drop n l) ≡ step_two stolen (take n l)
+take_two true n l = rw take-append-drop
+take_two false n l = rw (serve_is false n (any in_hold (take n l)) l refl) (take_serve (may_work (any in_hold (take n l))) n l)
+
+drop_two : (stolen : Bool) (n : ℕ) (l : List RunRow) → drop n (step_two stolen (take n l) ++ drop n l) ≡ drop n l
+drop_two true n l = rw take-append-drop
+drop_two false n l = rw (serve_is false n (any in_hold (take n l)) l refl) (drop_serve (may_work (any in_hold (take n l))) n l)
+
+-- the slot, step by step
+pub slot_is : (clock n : ℕ) (stolen : Bool) (l l₁ l₂ l₃ : List RunRow) → l₁ ≡ step_one clock (take n l) ++ drop n l → l₂ ≡ step_two stolen (take n l₁) ++ drop n l₁ → l₃ ≡ step_three (tick clock) (take n l₂) ++ drop n l₂ → l₃ ≡ slot_rows clock stolen (take n l) ++ drop n l
+slot_is clock n stolen l l₁ l₂ l₃ a b c =
+    let f = released_of clock in
+    let t₁ : take n l₁ ≡ step_one clock (take n l) = rw (a, each_is f n l) (take_each f n l) in
+    let d₁ : drop n l₁ ≡ drop n l = rw (a, each_is f n l) (drop_each f n l) in
+    let t₂ : take n l₂ ≡ step_two stolen (take n l₁) = rw b (take_two stolen n l₁) in
+    let d₂ : drop n l₂ ≡ drop n l₁ = rw b (drop_two stolen n l₁) in
+    rw (c, t₂, d₂, t₁, d₁) refl
 
 -- ── A step goes over the rows from the front ──
 

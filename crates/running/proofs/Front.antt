@@ -1,19 +1,17 @@
 -- Where `advance_rows` looks for the row that gets the slot: the row `first` is in its hold and no other, or none is and no row before
 -- `first` has work. Assumes nothing.
-use Rattle.std.proofs.Common.{◌≡◌, ℕ, ◌+◌, ◌<◌, ◌≤◌, Bool, true, false, cond, not, ◌&&◌, ◌||◌, eqb, ltb, leb, List, length, get_or, take, set, sym, refl, ◌∙◌, arith, get_or-set_other, ltb-false, ltb-true, eq-eqb, ne_eqb, leb-false, leb-true}
+use Rattle.std.proofs.Common.{◌≡◌, ℕ, ◌+◌, ◌<◌, ◌≤◌, Bool, true, false, cond, not, ◌&&◌, ◌||◌, eqb, leb, Option, Some, None, is_some, unwrap_or, List, length, get_or, take, set, sym, refl, ◌∙◌, arith, get_or-set_other, eq-eqb, ne_eqb, leb-false, leb-true}
+use Rattle.std.specs.List.{position}
 use Rattle.rules.specs.declared.RunRow.{RunRow}
-use Rattle.rules.specs.RunState.{in_hold, any}
+use Rattle.rules.specs.RunState.{in_hold, any, one_hold}
 use Rattle.rules.specs.Run.{no_run_row, may_work}
 use Rattle.rules.proofs.Holds.{idle_free, one_free}
-use Rattle.running.specs.HeldRow.{HeldBy}
+use Rattle.running.specs.Outlook.{AllIdle, Front}
 use Rattle.running.proofs.Elements.{one_more, stored_at}
 use Rattle.running.proofs.EachRow.{AllRest}
-use Rattle.running.proofs.HeldRow.{any_at, any_none}
+use Rattle.running.proofs.HeldRow.{any_at, any_none, held_here, held_nowhere}
 
 -- ── Rows without work ──
-
-abbrev pub AllIdle : ℕ → List RunRow → Type 0
-AllIdle n rows = (i : ℕ) (d : RunRow) → i < n → (get_or rows i d).left ≡ 0
 
 idle_stored : (rows : List RunRow) (i f n : ℕ) (v : RunRow) → n ≤ f → n ≤ i → AllIdle f rows → AllIdle n (set rows i v)
 idle_stored rows i f n v h k w = λ j d z. rw (get_or-set_other rows i j v d (λ u. omega arith)) (w j d (omega arith))
@@ -23,17 +21,13 @@ idle_stored rows i f n v h k w = λ j d z. rw (get_or-set_other rows i j v d (λ
 never : false ≡ true → ⊥
 never e = let z : ◌≡◌ {A = ℕ} 0 1 = cc in omega arith
 
-pub record Front (holding : Bool) (count first : ℕ) (rows : List RunRow) : Type 0 where
-  pub held : (i : ℕ) (d : RunRow) → i < count → in_hold (get_or rows i d) ≡ holding && eqb i first
-  pub within : holding ≡ true → first < count
-  pub idle : holding ≡ false → AllIdle first rows
-
--- from the place of the row in its hold
-pub front_start : (held n f : ℕ) (rows : List RunRow) → HeldBy held n rows → (t : Bool) → ltb held n ≡ t → f ≡ cond t held 0 → Front t n f rows
-front_start held n f rows q true e z =
-    record { held = λ i d k. rw z (q i d k); within = λ w. rw z (ltb-true held n e); idle = λ w. absurd (never (sym w)) }
-front_start held n f rows q false e z =
-    record { held = λ i d k. q i d k ∙ ne_eqb i held (λ y. omega (arith, ltb-false held n e)); within = λ w. absurd (never w); idle = λ w i d k. absurd (omega (arith, z)) }
+-- from the place of the row in its hold, if there is one
+pub front_start : (n : ℕ) (rows : List RunRow) → n ≤ length rows → one_hold (take n rows) ≡ true → (held : Option ℕ) (t : Bool) (f : ℕ) → held ≡ position in_hold (take n rows) → t ≡ is_some held → f ≡ unwrap_or held 0 → Front t n f rows
+front_start n rows k o (Some h) t f e q z =
+    let y = held_here n rows k o h e in
+    rw (q, z) (record { held = y.1; within = λ w. y.0; idle = λ w. absurd (never (sym w)) })
+front_start n rows k o None t f e q z =
+    rw (q, z) (record { held = held_nowhere n rows k e; within = λ w. absurd (never w); idle = λ w i d h. absurd (omega arith) })
 
 module _ {count first : ℕ} {rows : List RunRow} where
   -- whether any row is in its hold

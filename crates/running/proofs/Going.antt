@@ -1,24 +1,21 @@
--- The loops of `advance_rows`: what holds between slots and within a slot, and each way on. Assumes nothing.
-use Rattle.std.proofs.Common.{◌≡◌, ℕ, zero, suc, ◌+◌, ◌^◌, ◌<◌, ◌≤◌, Bool, true, false, cond, not, ◌&&◌, ◌||◌, eqb, ltb, leb, List, ◌∷◌, length, get_or, take, drop, set, replicate, sym, refl, ap, ◌∙◌, add-one, arith, length-set, drop_of_length-le, drop-cons, ltb-false, ltb-true, ne_eqb}
+-- The loops of the three steps that `advance` does: what holds in each, and each way on. Assumes nothing.
+use Rattle.std.proofs.Common.{◌≡◌, ℕ, zero, suc, ◌+◌, ◌^◌, ◌<◌, ◌≤◌, Bool, true, false, cond, not, ◌&&◌, ◌||◌, eqb, ltb, leb, List, ◌++◌, length, get_or, take, drop, set, sym, refl, ap, ◌∙◌, arith, length-set, ltb-false, ltb-true, ne_eqb}
 use native.Mathlib.Decide.{ℕ_discrete}
 use lib.Seq.{set-get_or}
 use Rattle.rules.specs.declared.RunRow.{RunRow}
-use Rattle.rules.specs.declared.Run.{Run}
-use Rattle.rules.specs.RunState.{due_in, in_hold, any}
-use Rattle.rules.specs.Run.{tick, released_of, served_of, may_work, aged_of, slot_of, slots_of}
+use Rattle.rules.specs.RunState.{due_in, in_hold}
+use Rattle.rules.specs.Run.{tick, released_of, served_of, may_work, aged_of, step_one, step_two, step_three}
 use Rattle.rules.proofs.Holds.{one_free, released_hold, aged_hold}
 use Rattle.rules.proofs.Tests.{and_left, and_right, or_false}
+use Rattle.running.specs.declared.outlook.Outlook.{Outlook}
 use Rattle.running.specs.Rests.{Rests}
+use Rattle.running.specs.Outlook.{AllUndue, Watch, Front, Kept, Between, Within}
 use Rattle.running.proofs.Elements.{get_d_any, stored_at, both_at}
-use Rattle.running.proofs.Ahead.{due_later, nearer_later, due_now, rests_now, rests_later, ahead_same, less_of, served_less, served_free, rests_less, served_next}
-use Rattle.running.proofs.EachRow.{each_in, serve_in, slot_is, each_stored, each_same, each_all, serve_none, serve_at}
-use Rattle.running.proofs.Front.{Front, front_any, front_rests, front_works, front_one, front_idle, front_released, front_served, front_aged}
+use Rattle.running.proofs.Ahead.{due_later, nearer_later, rests_now, rests_later, ahead_same, less_of, served_less, served_free, rests_less, served_next}
+use Rattle.running.proofs.EachRow.{each_in, serve_in, each_is, serve_is, each_stored, each_same, each_all, serve_none, serve_at}
+use Rattle.running.proofs.Front.{front_any, front_rests, front_works, front_one, front_idle, front_released, front_served, front_aged}
 
 -- ── Releases ahead ──
-
--- no row is due before the clock value `due`
-abbrev pub AllUndue : ℕ → ℕ → ℕ → List RunRow → Type 0
-AllUndue clock due count rows = (j : ℕ) (d : RunRow) → j < count → due_in clock due ≤ due_in clock (get_or rows j d).next
 
 -- a store that leaves the next release as it is
 undue_stored : (clock due count : ℕ) (rows : List RunRow) (i : ℕ) (v d : RunRow) → i < count → i < length rows → v.next ≡ (get_or rows i d).next → AllUndue clock due count rows → AllUndue clock due count (set rows i v)
@@ -26,19 +23,6 @@ undue_stored clock due count rows i v d h k e q =
     λ j d' z. stored_at (λ w. due_in clock due ≤ due_in clock w.next) rows i j v d' k (λ u. q j d' z) (λ u. rw e (q i d h))
 
 -- ── What holds at all times ──
-
--- nothing lapses at the row before the clock value `own`, which is not before `lapse`
-pub record Watch (clock lapse own : ℕ) (row : RunRow) : Type 0 where
-  pub soon : due_in clock lapse ≤ due_in clock own
-  pub rests : Rests clock (due_in clock own) row
-
-pub record Kept (clock count : ℕ) (rows : List RunRow) (lapses : List ℕ) (lapse : ℕ) (holding : Bool) (first : ℕ) : Type 0 where
-  pub few : count ≤ 64
-  pub long : length rows ≡ 64
-  pub wide : length lapses ≡ 64
-  pub sized : clock < 2 ^ 32
-  pub watched : (j : ℕ) (d : RunRow) → j < count → Watch clock lapse (get_or lapses j 0) (get_or rows j d)
-  pub front : Front holding count first rows
 
 watch_nearer : {clock n m l : ℕ} {row : RunRow} → due_in clock m ≤ due_in clock n → Watch clock n l row → Watch clock m l row
 watch_nearer h q = record { soon = omega (arith, h, q.soon); rests = q.rests }
@@ -62,49 +46,7 @@ kept_stored {clock = clock} {rows = rows} {lapses = lapses} p i l r f t v h q a 
       front = w;
     }
 
--- ── Between slots ──
-
--- what is left of the list makes of the rows what the whole list makes of the start
-pub record Going (start : Run) (list : List ℕ) (count : ℕ) (rows : List RunRow) (clock : ℕ) (lapses : List ℕ) (due lapse : ℕ) (holding : Bool) (first k : ℕ) : Type 0 where
-  pub kept : Kept clock count rows lapses lapse holding first
-  pub up_to : k ≤ length list
-  pub on : slots_of (record { clock = clock; count = count; rows = rows }) (drop k list) ≡ slots_of start list
-  pub undue : AllUndue clock due count rows
-
-get_d_replicate : (n i x : ℕ) → i < n → get_or (replicate n x) i 0 ≡ x
-get_d_replicate zero i x h = absurd (omega arith)
-get_d_replicate (suc n) zero x h = refl
-get_d_replicate (suc n) (suc i) x h = get_d_replicate n i x (omega arith)
-
-pub going_none : {count : ℕ} {rows : List RunRow} {clock : ℕ} {list : List ℕ} {holding : Bool} {first : ℕ} → count ≤ 64 → length rows ≡ 64 → clock < 2 ^ 32 → Front holding count first rows → Going (record { clock = clock; count = count; rows = rows }) list count rows clock (replicate 64 clock) clock clock holding first 0
-going_none {clock = clock} f l h w =
-    record {
-      kept = record {
-        few = f;
-        long = l;
-        wide = refl;
-        sized = h;
-        watched = λ j d z. rw (get_d_replicate 64 j clock (omega arith)) (record { soon = omega arith; rests = λ e k. absurd (omega (arith, k, due_now clock h)) });
-        front = w;
-      };
-      up_to = omega arith;
-      on = refl;
-      undue = λ j d z. omega (arith, due_now clock h);
-    }
-
-one_slot_law : (count clock : ℕ) (holding : Bool) (rows : List RunRow) (s : ℕ) (ss : List ℕ) → any in_hold (take count (each_in (released_of clock) count rows)) ≡ holding → slots_of (record { clock = clock; count = count; rows = rows }) (s ∷ ss)
-    ≡ slots_of (record { clock = tick clock; count = count; rows = each_in (aged_of (tick clock)) count (serve_in (may_work holding) (cond (eqb s 0) count 0) (each_in (released_of clock) count rows)) }) ss
-unfolding slots_of slot_of
-one_slot_law count clock holding rows s ss h = rw (slot_is clock count holding (eqb s 0) rows h)
-
-onward : (x : Run) (list : List ℕ) (count clock k : ℕ) (holding : Bool) (rows rows₁ rows₂ rows₃ : List RunRow) → k < length list → rows₁ ≡ each_in (released_of clock) count rows → any in_hold (take count rows₁) ≡ holding → rows₂ ≡ serve_in (may_work holding) (cond (eqb (get_or list k 0) 0) count 0) rows₁ → rows₃ ≡ each_in (aged_of (tick clock)) count rows₂ → slots_of (record { clock = clock; count = count; rows = rows }) (drop k list) ≡ x → slots_of (record { clock = tick clock; count = count; rows = rows₃ }) (drop (k + 1) list) ≡ x
-onward x list count clock k holding rows rows₁ rows₂ rows₃ h a w b c g =
-    rw (c, b, a, add-one k) (sym (one_slot_law count clock holding rows (get_or list k 0) (drop (suc k) list) (rw a at w)) ∙ (rw (drop-cons list k 0 h) at g))
-
--- the end of the list
-pub slots_end : (r x : Run) (list : List ℕ) (k : ℕ) → length list ≤ k → slots_of r (drop k list) ≡ x → r ≡ x
-unfolding slots_of
-slots_end r x list k h e = rw (drop_of_length-le list {i = k} h) at e
+-- ── Looks ──
 
 -- a row is left out only where slots are still to come in which none needs a look
 none_calm : (calm count upto j : ℕ) → upto ≡ cond (eqb calm 0) count 0 → j < count → (j < upto → j < 0) → 0 < calm
@@ -131,16 +73,16 @@ pub record Releasing (clock count : ℕ) (rows₀ : List RunRow) (upto : ℕ) (r
   pub same : rows ≡ each_in (released_of clock) i rows₀
   pub undue : (j : ℕ) (d : RunRow) → j < count → (j < upto → j < i) → due_in (tick clock) due ≤ due_in (tick clock) (get_or rows j d).next
 
-pub releasing_none : {start : Run} {list : List ℕ} {count : ℕ} {rows : List RunRow} {clock : ℕ} {lapses : List ℕ} {due lapse : ℕ} {holding : Bool} {first k upto : ℕ} → Going start list count rows clock lapses due lapse holding first k → upto ≡ cond (eqb (due_in clock due) 0) count 0 → Releasing clock count rows upto rows lapses due lapse holding first 0
+pub releasing_none : {ahead : Outlook} {rows : List RunRow} {lapses : List ℕ} {upto : ℕ} → Between ahead rows lapses → upto ≡ cond (eqb (due_in ahead.clock ahead.due) 0) ahead.count 0 → Releasing ahead.clock ahead.count rows upto rows lapses ahead.due ahead.lapse ahead.holding ahead.first 0
 unfolding each_in
-releasing_none {count = count} {rows = rows} {clock = clock} {due = due} {upto = upto} g u =
+releasing_none {ahead = ahead} {rows = rows} {upto = upto} g u =
     record {
       kept = g.kept;
-      fits = some_few (due_in clock due) count upto u;
+      fits = some_few (due_in ahead.clock ahead.due) ahead.count upto u;
       long₀ = g.kept.long;
       up_to = omega arith;
       same = refl;
-      undue = λ j d z y. nearer_later clock due (get_or rows j d).next g.kept.sized (none_calm (due_in clock due) count upto j u z y) (g.undue j d z);
+      undue = λ j d z y. nearer_later ahead.clock ahead.due (get_or rows j d).next g.kept.sized (none_calm (due_in ahead.clock ahead.due) ahead.count upto j u z y) (g.undue j d z);
     }
 
 module _ {clock count : ℕ} {rows₀ : List RunRow} {upto : ℕ} {rows : List RunRow} {lapses : List ℕ} {due lapse : ℕ} {holding : Bool} {first i : ℕ} (p : Releasing clock count rows₀ upto rows lapses due lapse holding first i) where
@@ -177,25 +119,27 @@ module _ {clock count : ℕ} {rows₀ : List RunRow} {upto : ℕ} {rows : List R
           undue = λ j d' z w. stored_at (λ o. due_in (tick clock) n ≤ due_in (tick clock) o.next) rows i j v d' (omega (arith, rel_here, p.kept.few, p.kept.long)) (λ o. nearer_yet a (p.undue j d' z (λ k. omega (arith, o, w k)))) (λ o. q);
         }
 
-  pub releasing_all : {start : Run} {list : List ℕ} {lapses₀ : List ℕ} {due₀ lapse₀ : ℕ} {holding₀ : Bool} {first₀ k : ℕ} → Going start list count rows₀ clock lapses₀ due₀ lapse₀ holding₀ first₀ k → upto ≡ cond (eqb (due_in clock due₀) 0) count 0 → upto ≤ i → rows ≡ each_in (released_of clock) count rows₀
-  releasing_all {due₀ = due₀} g u h =
-      each_all (released_of clock) (due_in clock due₀) count upto i rows rows₀ u h p.up_to p.same (λ c j d z. ahead_same clock (get_or rows₀ j d) g.kept.sized (nearer_yet c (g.undue j d z)))
+-- all rows are released, or none was due
+pub released_all : {ahead : Outlook} {rows₀ : List RunRow} {upto : ℕ} {rows : List RunRow} {lapses₀ lapses : List ℕ} {due lapse first i : ℕ} → Between ahead rows₀ lapses₀ → upto ≡ cond (eqb (due_in ahead.clock ahead.due) 0) ahead.count 0 → Releasing ahead.clock ahead.count rows₀ upto rows lapses due lapse ahead.holding first i → upto ≤ i → rows ≡ step_one ahead.clock (take ahead.count rows₀) ++ drop ahead.count rows₀
+released_all {ahead = ahead} {rows₀ = rows₀} {upto = upto} {rows = rows} {i = i} g u p h =
+    each_all (released_of ahead.clock) (due_in ahead.clock ahead.due) ahead.count upto i rows rows₀ u h p.up_to p.same (λ c j d z. ahead_same ahead.clock (get_or rows₀ j d) g.kept.sized (nearer_yet c (g.undue j d z))) ∙ sym (each_is (released_of ahead.clock) ahead.count rows₀)
+
+pub released_undue : {clock count : ℕ} {rows₀ : List RunRow} {upto : ℕ} {rows : List RunRow} {lapses : List ℕ} {due lapse : ℕ} {holding : Bool} {first i : ℕ} → Releasing clock count rows₀ upto rows lapses due lapse holding first i → upto ≤ i → AllUndue (tick clock) due count rows
+released_undue p h = λ j d z. p.undue j d z (λ y. omega arith)
 
 -- ── Step 2 ──
 
 -- a row before `seek` is still to get the slot; none is where one got it
-pub record Serving (clock count byte seek₀ : ℕ) (holding₀ : Bool) (rows₀ rows : List RunRow) (lapses : List ℕ) (due lapse : ℕ) (holding : Bool) (first seek : ℕ) : Type 0 where
+pub record Serving (clock count seek₀ : ℕ) (holding₀ : Bool) (rows₀ rows : List RunRow) (lapses : List ℕ) (due lapse : ℕ) (holding : Bool) (first seek : ℕ) : Type 0 where
   pub kept : Kept clock count rows lapses lapse holding first
   pub fits : seek ≤ count
-  pub sought : seek₀ ≡ cond (eqb byte 0) count 0
   pub undue : AllUndue (tick clock) due count rows
   pub same : serve_in (may_work holding) seek rows ≡ serve_in (may_work holding₀) seek₀ rows₀
 
-pub serving_none : {clock count : ℕ} {rows₀ : List RunRow} {upto : ℕ} {rows : List RunRow} {lapses : List ℕ} {due lapse : ℕ} {holding : Bool} {first i byte seek : ℕ} → Releasing clock count rows₀ upto rows lapses due lapse holding first i → upto ≤ i → seek ≡ cond (eqb byte 0) count 0 → Serving clock count byte seek holding rows rows lapses due lapse holding first seek
-serving_none {count = count} {byte = byte} {seek = seek} p h u =
-    record { kept = p.kept; fits = some_few byte count seek u; sought = u; undue = λ j d z. p.undue j d z (λ y. omega arith); same = refl }
+pub serving_none : {ahead : Outlook} {rows : List RunRow} {lapses : List ℕ} {seek : ℕ} → Within ahead rows lapses → seek ≤ ahead.count → Serving ahead.clock ahead.count seek ahead.holding rows rows lapses ahead.due ahead.lapse ahead.holding ahead.first seek
+serving_none w u = record { kept = w.kept; fits = u; undue = w.undue; same = refl }
 
-module _ {clock count byte seek₀ : ℕ} {holding₀ : Bool} {rows₀ rows : List RunRow} {lapses : List ℕ} {due lapse : ℕ} {holding : Bool} {first seek : ℕ} (p : Serving clock count byte seek₀ holding₀ rows₀ rows lapses due lapse holding first seek) where
+module _ {clock count seek₀ : ℕ} {holding₀ : Bool} {rows₀ rows : List RunRow} {lapses : List ℕ} {due lapse : ℕ} {holding : Bool} {first seek : ℕ} (p : Serving clock count seek₀ holding₀ rows₀ rows lapses due lapse holding first seek) where
   module _ (d : RunRow) (h : first < seek) where
     ser_here : first < count
     ser_here = omega (arith, h, p.fits)
@@ -204,37 +148,35 @@ module _ {clock count byte seek₀ : ℕ} {holding₀ : Bool} {rows₀ rows : Li
     in_served = omega (arith, ser_here, p.kept.few, p.kept.long)
 
     -- a row without work
-    pub serving_idle : (get_or rows first d).left ≡ 0 → Serving clock count byte seek₀ holding₀ rows₀ rows lapses due lapse holding (first + 1) seek
+    pub serving_idle : (get_or rows first d).left ≡ 0 → Serving clock count seek₀ holding₀ rows₀ rows lapses due lapse holding (first + 1) seek
     serving_idle e =
         record {
           kept = record { few = p.kept.few; long = p.kept.long; wide = p.kept.wide; sized = p.kept.sized; watched = p.kept.watched; front = front_idle holding p.kept.front d ser_here in_served e };
           fits = p.fits;
-          sought = p.sought;
           undue = p.undue;
           same = p.same;
         }
 
     -- the row gets the slot, and is in its hold then or not
-    pub serving_used : (v : RunRow) (l r f : ℕ) (t : Bool) → ((get_or rows first d).left ≡ 0 → ⊥) → v ≡ served_of (get_or rows first d) → Rests clock (due_in clock l) v → due_in clock r ≤ due_in clock lapse → due_in clock r ≤ due_in clock l → t ≡ in_hold v → f ≡ cond (holding && not t) 0 first → Serving clock count byte seek₀ holding₀ rows₀ (set rows first v) (set lapses first l) due r t f 0
+    pub serving_used : (v : RunRow) (l r f : ℕ) (t : Bool) → ((get_or rows first d).left ≡ 0 → ⊥) → v ≡ served_of (get_or rows first d) → Rests clock (due_in clock l) v → due_in clock r ≤ due_in clock lapse → due_in clock r ≤ due_in clock l → t ≡ in_hold v → f ≡ cond (holding && not t) 0 first → Serving clock count seek₀ holding₀ rows₀ (set rows first v) (set lapses first l) due r t f 0
     unfolding serve_in
     serving_used v l r f t b e q x y w z =
         record {
           kept = kept_stored p.kept first l r f t v ser_here q x y (front_served p.kept.front f t v ser_here in_served w z);
           fits = omega arith;
-          sought = p.sought;
           undue = undue_stored (tick clock) due count rows first v d ser_here in_served (rw e (served_next (get_or rows first d))) p.undue;
           same = rw e (sym (serve_at (may_work holding) seek first rows d h in_served (front_rests holding p.kept.front) (front_works holding p.kept.front d ser_here b)) ∙ p.same);
         }
 
     -- its last unit, with no hold over it: it is in none then
-    pub serving_last : (v : RunRow) (l r : ℕ) → ((get_or rows first d).left ≡ 0 → ⊥) → v ≡ served_of (get_or rows first d) → Rests clock (due_in clock l) v → due_in clock r ≤ due_in clock lapse → due_in clock r ≤ due_in clock l → holding || ltb 1 (get_or rows first d).left ≡ false → Serving clock count byte seek₀ holding₀ rows₀ (set rows first v) (set lapses first l) due r holding first 0
+    pub serving_last : (v : RunRow) (l r : ℕ) → ((get_or rows first d).left ≡ 0 → ⊥) → v ≡ served_of (get_or rows first d) → Rests clock (due_in clock l) v → due_in clock r ≤ due_in clock lapse → due_in clock r ≤ due_in clock l → holding || ltb 1 (get_or rows first d).left ≡ false → Serving clock count seek₀ holding₀ rows₀ (set rows first v) (set lapses first l) due r holding first 0
     serving_last v l r b e q x y z =
         let o = or_false holding (ltb 1 (get_or rows first d).left) z in
         let free : in_hold v ≡ false = rw e (served_free (get_or rows first d) (ltb-false 1 (get_or rows first d).left o.1)) in
         serving_used v l r first holding b e q x y (o.0 ∙ sym free) (rw o.0 refl)
 
     -- with more work than that and a hold of 1, which holds nothing
-    pub serving_less : ltb 1 (get_or rows first d).left && ltb (get_or rows first d).planned.hold 2 ≡ true → Serving clock count byte seek₀ holding₀ rows₀ (set rows first (less_of (get_or rows first d))) lapses due lapse holding first 0
+    pub serving_less : ltb 1 (get_or rows first d).left && ltb (get_or rows first d).planned.hold 2 ≡ true → Serving clock count seek₀ holding₀ rows₀ (set rows first (less_of (get_or rows first d))) lapses due lapse holding first 0
     serving_less t =
         let b = ltb-true 1 (get_or rows first d).left (and_left (ltb 1 (get_or rows first d).left) (ltb (get_or rows first d).planned.hold 2) t) in
         let k = ltb-true (get_or rows first d).planned.hold 2 (and_right (ltb 1 (get_or rows first d).left) (ltb (get_or rows first d).planned.hold 2) t) in
@@ -246,8 +188,12 @@ module _ {clock count byte seek₀ : ℕ} {holding₀ : Bool} {rows₀ rows : Li
   pub serving_in : first < seek → first < 64
   serving_in h = omega (arith, h, p.fits, p.kept.few)
 
-  serving_all : seek ≤ first → rows ≡ serve_in (may_work holding₀) seek₀ rows₀
+  pub serving_all : seek ≤ first → rows ≡ serve_in (may_work holding₀) seek₀ rows₀
   serving_all h = sym (serve_none (may_work holding) seek rows (λ i d z. front_rests holding p.kept.front i d (omega arith))) ∙ p.same
+
+pub served_all : {ahead : Outlook} {rows₀ rows : List RunRow} {lapses₀ lapses : List ℕ} {lapse : ℕ} {holding : Bool} {first seek₀ seek : ℕ} (stolen : Bool) → Within ahead rows₀ lapses₀ → Serving ahead.clock ahead.count seek₀ ahead.holding rows₀ rows lapses ahead.due lapse holding first seek → seek₀ ≡ cond stolen 0 ahead.count → seek ≤ first → rows ≡ step_two stolen (take ahead.count rows₀) ++ drop ahead.count rows₀
+served_all {ahead = ahead} {rows₀ = rows₀} stolen w p e h =
+    serving_all p h ∙ rw e (sym (serve_is stolen ahead.count ahead.holding rows₀ (front_any ahead.holding w.kept.front (omega (arith, w.kept.few, w.kept.long)))))
 
 -- ── Step 3 ──
 
@@ -266,19 +212,19 @@ pub record Aging (clock count : ℕ) (rows₀ : List RunRow) (due : ℕ) (holdin
   pub undue : AllUndue (tick clock) due count rows
   pub front : Front holding count first rows
 
-pub aging_none : {clock count byte seek₀ : ℕ} {holding₀ : Bool} {rows₀ rows : List RunRow} {lapses : List ℕ} {due lapse : ℕ} {holding : Bool} {first seek upto : ℕ} → Serving clock count byte seek₀ holding₀ rows₀ rows lapses due lapse holding first seek → upto ≡ cond (eqb (due_in clock lapse) 0) count 0 → Aging clock count rows due holding first upto rows lapses lapse 0
+pub aging_none : {ahead : Outlook} {rows : List RunRow} {lapses : List ℕ} {upto : ℕ} → Within ahead rows lapses → upto ≡ cond (eqb (due_in ahead.clock ahead.lapse) 0) ahead.count 0 → Aging ahead.clock ahead.count rows ahead.due ahead.holding ahead.first upto rows lapses ahead.lapse 0
 unfolding each_in
-aging_none {clock = clock} {count = count} {lapse = lapse} {upto = upto} p u =
+aging_none {ahead = ahead} {upto = upto} p u =
     record {
       few = p.kept.few;
       long₀ = p.kept.long;
       long = p.kept.long;
       wide = p.kept.wide;
       sized = p.kept.sized;
-      fits = some_few (due_in clock lapse) count upto u;
+      fits = some_few (due_in ahead.clock ahead.lapse) ahead.count upto u;
       up_to = omega arith;
       same = refl;
-      later = λ j d z y. watch_later p.kept.sized (none_calm (due_in clock lapse) count upto j u z y) (p.kept.watched j d z);
+      later = λ j d z y. watch_later p.kept.sized (none_calm (due_in ahead.clock ahead.lapse) ahead.count upto j u z y) (p.kept.watched j d z);
       still = λ j d z y. (p.kept.watched j d z).rests;
       undue = p.undue;
       front = p.kept.front;
@@ -339,26 +285,14 @@ module _ {clock count : ℕ} {rows₀ : List RunRow} {due : ℕ} {holding : Bool
           front = front_aged p.front i v d old_here in_rows (ap in_hold e ∙ aged_hold (tick clock) (get_or rows i d)) (ap (λ (o : RunRow). o.left) e);
         }
 
--- ── The next slot ──
+-- all rows are aged, or nothing lapsed
+pub aged_all : {ahead : Outlook} {rows₀ : List RunRow} {lapses₀ : List ℕ} {upto : ℕ} {rows : List RunRow} {lapses : List ℕ} {lapse i : ℕ} → Within ahead rows₀ lapses₀ → upto ≡ cond (eqb (due_in ahead.clock ahead.lapse) 0) ahead.count 0 → Aging ahead.clock ahead.count rows₀ ahead.due ahead.holding ahead.first upto rows lapses lapse i → upto ≤ i → rows ≡ step_three (tick ahead.clock) (take ahead.count rows₀) ++ drop ahead.count rows₀
+aged_all {ahead = ahead} {rows₀ = rows₀} {lapses₀ = lapses₀} {upto = upto} {rows = rows} {i = i} w u p h =
+    each_all (aged_of (tick ahead.clock)) (due_in ahead.clock ahead.lapse) ahead.count upto i rows rows₀ u h p.up_to p.same (λ c n d z. rests_now ahead.clock (due_in ahead.clock (get_or lapses₀ n 0)) (get_or rows₀ n d) p.sized (omega (arith, c, (w.kept.watched n d z).soon)) (w.kept.watched n d z).rests) ∙ sym (each_is (aged_of (tick ahead.clock)) ahead.count rows₀)
 
-pub going_on : {start : Run} {list : List ℕ} {count : ℕ} {rows₀ : List RunRow} {clock : ℕ} {lapses₀ : List ℕ} {due₀ lapse₀ : ℕ} {holding₀ : Bool} {first₀ k : ℕ} {upto : ℕ} {rows₁ : List RunRow} {lapses₁ : List ℕ} {due lapse₁ first₁ i : ℕ} {rows₂ : List RunRow} {lapses₂ : List ℕ} {lapse₂ : ℕ} {holding : Bool} {first seek₀ seek looked : ℕ} {rows : List RunRow} {lapses : List ℕ} {lapse j : ℕ}
-    → Going start list count rows₀ clock lapses₀ due₀ lapse₀ holding₀ first₀ k
-    → k < length list
-    → upto ≡ cond (eqb (due_in clock due₀) 0) count 0
-    → Releasing clock count rows₀ upto rows₁ lapses₁ due lapse₁ holding₀ first₁ i
-    → upto ≤ i
-    → Serving clock count (get_or list k 0) seek₀ holding₀ rows₁ rows₂ lapses₂ due lapse₂ holding first seek
-    → seek ≤ first
-    → looked ≡ cond (eqb (due_in clock lapse₂) 0) count 0
-    → Aging clock count rows₂ due holding first looked rows lapses lapse j
-    → looked ≤ j
-    → Going start list count rows (tick clock) lapses due lapse holding first (k + 1)
-going_on {list = list} {count = count} {rows₀ = rows₀} {clock = clock} {holding₀ = holding₀} {k = k} {rows₁ = rows₁} {rows₂ = rows₂} {lapses₂ = lapses₂} {lapse₂ = lapse₂} {looked = looked} {rows = rows} {j = j} g h u r a s f v p b =
+pub aged_kept : {clock count : ℕ} {rows₀ : List RunRow} {due : ℕ} {holding : Bool} {first upto : ℕ} {rows : List RunRow} {lapses : List ℕ} {lapse i : ℕ} → Aging clock count rows₀ due holding first upto rows lapses lapse i → upto ≤ i → Between (record { clock = tick clock; count = count; due = due; lapse = lapse; holding = holding; first = first }) rows lapses
+aged_kept p h =
     record {
       kept = record { few = p.few; long = p.long; wide = p.wide; sized = omega arith; watched = λ n d z. p.later n d z (λ y. omega arith); front = p.front };
-      up_to = omega arith;
-      on = onward _ list count clock k holding₀ rows₀ rows₁ rows₂ rows h (releasing_all r g u a) (front_any holding₀ r.kept.front (omega (arith, r.kept.few, r.kept.long))) (serving_all s f ∙ ap (λ (m : ℕ). serve_in (may_work holding₀) m rows₁) s.sought)
-          (each_all (aged_of (tick clock)) (due_in clock lapse₂) count looked j rows rows₂ v b p.up_to p.same (λ c n d z. rests_now clock (due_in clock (get_or lapses₂ n 0)) (get_or rows₂ n d) p.sized (omega (arith, c, (s.kept.watched n d z).soon)) (s.kept.watched n d z).rests))
-          g.on;
       undue = p.undue;
     }

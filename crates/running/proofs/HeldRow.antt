@@ -1,11 +1,14 @@
 -- At most one row is in its hold: its place, found from the front. Assumes nothing.
-use Rattle.std.proofs.Common.{◌≡◌, ℕ, zero, suc, ◌+◌, ◌<◌, ◌≤◌, Bool, true, false, not, ◌&&◌, ◌||◌, eqb, List, [], ◌∷◌, length, get_or, take, sym, refl, ap, ◌∙◌, arith, eq-eqb, ne_eqb}
+use Rattle.std.proofs.Common.{◌≡◌, ℕ, zero, suc, ◌+◌, ◌<◌, ◌≤◌, Bool, true, false, cond, not, ◌&&◌, ◌||◌, eqb, ltb, Some, None, List, [], ◌∷◌, length, get_or, take, sym, refl, ap, ◌∙◌, arith, eq-eqb, ne_eqb, ltb-false, length-take-le, get_or-take}
 use native.Mathlib.Decide.{ℕ_discrete}
+use Rattle.std.specs.List.{position, position_or_len}
+use Rattle.std.proofs.lemmas.List.Quantifiers.{position-Some}
 use Rattle.rules.specs.declared.RunRow.{RunRow}
 use Rattle.rules.specs.RunState.{in_hold, any, one_hold}
 use Rattle.rules.proofs.Tests.{and_right}
 use Rattle.running.specs.HeldRow.{HeldBy}
-use Rattle.running.proofs.Elements.{get_d_any, one_more}
+use Rattle.rules.specs.Run.{no_run_row}
+use Rattle.running.proofs.Elements.{get_d_any}
 use Rattle.running.proofs.EachRow.{AllRest}
 
 -- ── All rows ──
@@ -45,29 +48,38 @@ one_holder (suc n) (r ∷ rs) (suc i) (suc j) d e o k a b p q =
 
 -- ── The search ──
 
--- none of the rows before i is in its hold
-pub record Searched (n : ℕ) (l : List RunRow) (i : ℕ) : Type 0 where
-  pub few : n ≤ 64
-  pub long : length l ≡ 64
-  pub up_to : i ≤ n
-  pub none : AllRest in_hold i l
+-- no row before the place that is found is in its hold
+none_before : (l : List RunRow) (i : ℕ) (d : RunRow) → i < position_or_len in_hold l → in_hold (get_or l i d) ≡ false
+none_before [] i d h = absurd (omega arith)
+none_before (r ∷ l) i d h = by_hold i (in_hold r) refl h (λ j. none_before l j d)
+  where
+    by_hold : (i : ℕ) (t : Bool) → in_hold r ≡ t → i < cond (not t) (1 + position_or_len in_hold l) 0 → ((j : ℕ) → j < position_or_len in_hold l → in_hold (get_or l j d) ≡ false) → in_hold (get_or (r ∷ l) i d) ≡ false
+    by_hold i true e k q = absurd (omega arith)
+    by_hold zero false e k q = e
+    by_hold (suc i) false e k q = q i (omega arith)
 
-pub searched_none : {n : ℕ} {l : List RunRow} → n ≤ 64 → length l ≡ 64 → Searched n l 0
-searched_none f h = record { few = f; long = h; up_to = omega arith; none = λ i d k. absurd (omega arith) }
+module _ (n : ℕ) (l : List RunRow) (k : n ≤ length l) where
+  pub held_nowhere : None ≡ position in_hold (take n l) → AllRest in_hold n l
+  held_nowhere e = λ i d h. sym (ap in_hold (get_or-take n l i d h)) ∙ none_before (take n l) i d (by_test (ltb (position_or_len in_hold (take n l)) (length (take n l))) refl e i h)
+    where
+      by_test : (t : Bool) → ltb (position_or_len in_hold (take n l)) (length (take n l)) ≡ t → None ≡ cond t (Some (position_or_len in_hold (take n l))) None → (i : ℕ) → i < n → i < position_or_len in_hold (take n l)
+      by_test true q z i h = let y : ◌≡◌ {A = ℕ} 0 1 = cc in absurd (omega arith)
+      by_test false q z i h = omega (arith, h, ltb-false _ _ q, length-take-le n l k)
 
-module _ {n : ℕ} {l : List RunRow} {i : ℕ} (p : Searched n l i) where
-  module _ (d : RunRow) (h : i < n) where
-    pub searched_next : in_hold (get_or l i d) ≡ false → Searched n l (i + 1)
-    searched_next e =
-        record { few = p.few; long = p.long; up_to = omega arith; none = one_more (λ r. in_hold r ≡ false) l i d (omega (arith, p.few, p.long)) p.none e }
+  -- the one in its hold, where at most one is
+  pub held_here : one_hold (take n l) ≡ true → (i : ℕ) → Some i ≡ position in_hold (take n l) → (i < n) × HeldBy i n l
+  held_here o i e = (here, λ j d h. by_hold j d h (in_hold (get_or l j d)) refl (ℕ_discrete j i))
+    where
+      found : (i < length (take n l)) × (in_hold (get_or (take n l) i no_run_row) ≡ true) × ((j : ℕ) → j < i → in_hold (get_or (take n l) j no_run_row) ≡ false)
+      found = position-Some in_hold (take n l) i no_run_row (sym e)
 
-    pub held_here : one_hold (take n l) ≡ true → in_hold (get_or l i d) ≡ true → HeldBy i n l
-    held_here o e = λ j d' k. by_hold j d' k (in_hold (get_or l j d')) refl (ℕ_discrete j i)
-      where
-        by_hold : (j : ℕ) (d' : RunRow) → j < n → (t : Bool) → in_hold (get_or l j d') ≡ t → Dec (j ≡ i) → t ≡ eqb j i
-        by_hold j d' k true q s = sym (eq-eqb j i (one_holder n l j i d' d o (omega (arith, p.few, p.long)) k h q e))
-        by_hold j d' k false q (no s) = sym (ne_eqb j i s)
-        by_hold j d' k false q (yes s) = sym q ∙ rw (s, get_d_any l i d' d (omega (arith, p.few, p.long)), e, eq-eqb i i refl)
+      here : i < n
+      here = omega (arith, found.0, length-take-le n l k)
 
-  pub held_nowhere : n ≤ i → HeldBy 64 n l
-  held_nowhere h = λ j d k. p.none j d (omega arith) ∙ sym (ne_eqb j 64 (λ z. omega (arith, p.few)))
+      held : in_hold (get_or l i no_run_row) ≡ true
+      held = sym (ap in_hold (get_or-take n l i no_run_row here)) ∙ found.1
+
+      by_hold : (j : ℕ) (d : RunRow) → j < n → (t : Bool) → in_hold (get_or l j d) ≡ t → Dec (j ≡ i) → t ≡ eqb j i
+      by_hold j d h true q s = sym (eq-eqb j i (one_holder n l j i d no_run_row o k h here q held))
+      by_hold j d h false q (no s) = sym (ne_eqb j i s)
+      by_hold j d h false q (yes s) = sym q ∙ rw (s, get_d_any l i d no_run_row (omega (arith, here, k)), held, eq-eqb i i refl)

@@ -8,6 +8,7 @@ pub mod HeldRow
 pub mod Front
 pub mod Ahead
 pub mod Going
+pub mod SlotBySlot
 pub mod Firsts
 pub mod FromStored
 pub mod PlanCount

@@ -1,23 +1,17 @@
 // The row in its hold, of which there is at most one, and where the row that gets the slot is looked for.
-ghost use Rattle.std.specs.Prelude.{◌≡◌, ◌≤◌, true, not, ◌&&◌, ◌||◌, if◌then◌else◌, nat_le};
-ghost use Rattle.rules.specs.RunState.{used_rows, one_hold};
-ghost use Rattle.running.specs.HeldRow.{HeldBy};
+ghost use Rattle.std.specs.Prelude.{◌≡◌, not, ◌&&◌, ◌||◌, if◌then◌else◌, nat_le, position};
+ghost use Rattle.rules.specs.RunState.{in_hold, used_rows};
 
-use rules::{ROWS, Run};
+use rules::Run;
 
-// The place of the row in its hold; 64 where there is none.
-pub(crate) fn holder(run: Run) -> usize
-    requires { (run.count ≤ 64) × (one_hold (used_rows run) ≡ true) }
-    ensures { HeldBy result run.count run.rows }
+// The place of the row in its hold, if there is one.
+pub(crate) fn holder(run: &Run) -> Option<usize>
+    ensures { result ≡ position in_hold (used_rows run.now) }
 {
-    let count = run.count;
-    for i in 0..count {
-        if stepping::in_hold(run.rows[i]) {
-            return i;
-        }
-    }
-    ROWS
+    run.used().iter().position(|row| stepping::in_hold(*row))
 }
+
+// Here and in `first_after` the parts of a test are all taken, by `|` and `&`: a branch for each would be one more way to prove.
 
 // Where the search begins once the row `at` has work: there if that is sooner, but at the row in its hold if there is one.
 pub(crate) fn first_now(holding: bool, first: usize, at: usize) -> usize

@@ -1,6 +1,7 @@
 -- A condition on all rows, on their holds, or on all ids, looked at from the front: one turn of the loop, and the end. Assumes nothing.
-use Rattle.std.proofs.Common.{◌≡◌, ℕ, ◌+◌, ◌<◌, ◌≤◌, Bool, true, false, not, ◌&&◌, ◌||◌, eqb, List, map, length, get_or, take, drop, set, refl, add-one, drop_of_length-le, drop-cons, take-suc, take-suc-set}
+use Rattle.std.proofs.Common.{◌≡◌, ℕ, ◌+◌, ◌-◌, ◌<◌, ◌≤◌, Bool, true, false, not, ◌&&◌, ◌||◌, eqb, List, [], ◌∷◌, map, length, get_or, take, drop, set, refl, ap, add-one, drop_of_length-le, drop-cons, take_all, length-drop, arith, take-suc, take-suc-set}
 use mathlib.Core.List.{map-append}
+use Rattle.std.specs.List.{list_all}
 use Rattle.rules.specs.declared.RunRow.{RunRow}
 use Rattle.rules.specs.RunState.{every, row_ok, id_of, not_in, distinct, in_hold, any, one_hold}
 use Rattle.stepping.proofs.Lists.{next_of, end_of}
@@ -8,13 +9,10 @@ use Rattle.rules.proofs.Tests.{and_assoc, and_true}
 
 -- ── All rows ──
 
-pub every_turn : (p : RunRow → Bool) (l : List RunRow) (ok : Bool) (i : ℕ) (d : RunRow) → i < length l → ok && p (get_or l i d) && every p (drop (i + 1) l) ≡ ok && every p (drop i l)
+pub every_is_all : (p : RunRow → Bool) (l : List RunRow) → every p l ≡ list_all p l
 unfolding every
-every_turn p l ok i d h = rw (add-one, drop-cons l i d, and_assoc)
-
-pub every_end : (p : RunRow → Bool) (l : List RunRow) (ok : Bool) (i : ℕ) → length l ≤ i → ok && every p (drop i l) ≡ ok
-unfolding every
-every_end p l ok i h = rw (drop_of_length-le l h, and_true)
+every_is_all p [] = refl
+every_is_all p (r ∷ l) = ap (λ b. p r && b) (every_is_all p l)
 
 -- ── All rows in use, and their holds ──
 
@@ -68,20 +66,24 @@ module _ (rows : List RunRow) (n : ℕ) (h : n ≤ length rows) (holding : Bool)
 pub ids_more : (ids : List ℕ) (rows : List RunRow) (i : ℕ) (d : RunRow) → i < length ids → i < length rows → take i ids ≡ map id_of (take i rows) → take (i + 1) (set ids i (id_of (get_or rows i d))) ≡ map id_of (take (i + 1) rows)
 ids_more ids rows i d h k e = rw (add-one, take-suc-set, take-suc rows i d, map-append, e)
 
+-- those behind an id, as the code takes them
+pub behind : (ids : List ℕ) (i : ℕ) → take (length ids - (i + 1)) (drop (i + 1) ids) ≡ drop (i + 1) ids
+behind ids i = take_all (length ids - (i + 1)) (drop (i + 1) ids) (omega (arith, length-drop (i + 1) ids))
+
 -- an id against those behind it
-module _ (ids : List ℕ) (n : ℕ) (h : n ≤ length ids) where
-  pub outer_turn : (ok : Bool) (i : ℕ) → i < n → ok && (not_in (get_or ids i 0) (drop (i + 1) (take n ids)) && distinct (drop (i + 1) (take n ids))) ≡ ok && distinct (drop i (take n ids))
+module _ (ids : List ℕ) (i : ℕ) where
+  pub outer_turn : (differ : Bool) → i < length ids → differ && not_in (get_or ids i 0) (drop (i + 1) ids) && distinct (drop (i + 1) ids) ≡ differ && distinct (drop i ids)
   unfolding distinct
-  outer_turn ok i k = rw (next_of ids n h i 0 k)
+  outer_turn differ h = rw (add-one, drop-cons ids i 0, and_assoc)
 
-  pub inner_turn : (ok : Bool) (x j : ℕ) (t : Bool) → j < n → ok && not (eqb x (get_or ids j 0)) && (not_in x (drop (j + 1) (take n ids)) && t) ≡ ok && (not_in x (drop j (take n ids)) && t)
+  pub inner_turn : (new : Bool) (x : ℕ) → i < length ids → new && not (eqb x (get_or ids i 0)) && not_in x (drop (i + 1) ids) ≡ new && not_in x (drop i ids)
   unfolding not_in
-  inner_turn ok x j t k = rw (next_of ids n h j 0 k, and_assoc ok, and_assoc (not (eqb x (get_or ids j 0))))
+  inner_turn new x h = rw (add-one, drop-cons ids i 0, and_assoc)
 
-  pub outer_end : (ok : Bool) (i : ℕ) → n ≤ i → ok && distinct (drop i (take n ids)) ≡ ok
+  pub outer_end : (differ : Bool) → length ids ≤ i → differ && distinct (drop i ids) ≡ differ
   unfolding distinct
-  outer_end ok i k = rw (end_of ids n h i k, and_true)
+  outer_end differ h = rw (drop_of_length-le ids, and_true)
 
-  pub inner_end : (x j : ℕ) → n ≤ j → not_in x (drop j (take n ids)) ≡ true
+  pub inner_end : (new : Bool) (x : ℕ) → length ids ≤ i → new && not_in x (drop i ids) ≡ new
   unfolding not_in
-  inner_end x j k = rw (end_of ids n h j k)
+  inner_end new x h = rw (drop_of_length-le ids, and_true)

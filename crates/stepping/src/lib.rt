@@ -4,8 +4,5 @@
 mod acceptance;
 mod rows;
 
-// The largest number of a clock value, of a skip count and of any other field of a run.
-pub const LAST: u32 = 4294967295;
-
-pub use acceptance::{distinct, in_hold, is_acceptable, row_none, row_ok};
+pub use acceptance::{distinct, holding, in_hold, is_acceptable, row_none, row_ok};
 pub use rows::{age, aged, due_in, released, served, still_free, unmoved, worked};

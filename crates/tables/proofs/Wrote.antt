@@ -1,60 +1,48 @@
 -- What writing a table puts: the rows have passed the checks, and their records and then the trailer are its bytes. Assumes nothing.
-use Prim.Native.Nat.{ℕ, ◌+◌, ◌*◌, ◌≤◌, ◌<◌}
-use mathlib.Core.Path.{◌≡◌, refl}
-use mathlib.Core.List.{List, [], ◌∷◌, ◌++◌}
-use native.Mathlib.Omega.{arith}
-use native.Mathlib.Numerals.{add-one}
-use borrow.Author.Tests.{eq-eqb, ne_eqb, leb-true}
+use Rattle.std.proofs.Common.{◌≡◌, refl, sym, ap, ◌∙◌, subst, ℕ, ◌+◌, ◌*◌, ◌≤◌, arith, Bool, true, false, cond, not, eqb, List, [], ◌∷◌, ◌++◌, length, take, Option, Some, None, unwrap_or, Ok}
+use Rattle.std.specs.List.{position, position_from}
+use Rattle.std.proofs.lemmas.Iterator.Adapters.{position_from-zero}
+use Rattle.std.proofs.lemmas.List.{length-take-le}
+use Rattle.std.proofs.lemmas.List.Edits.{sets}
+use borrow.Author.Tests.{leb-true}
 use lib.Dec.{leb}
-use lib.ListN.{length, take, drop, get_or, length-take, drop_of_length-le}
-use lib.Seq.{sets, length-take-le, get_or-take, drop-cons}
+use Rattle.rules.specs.declared.Form.{Form}
+use Rattle.rules.specs.declared.Form.TheVariants.{One}
 use Rattle.rules.specs.declared.ObjectRow.{ObjectRow}
 use Rattle.rules.specs.declared.StoredTable.{StoredTable}
 use Rattle.rules.specs.declared.Refusal.TheVariants.{WrongMark, BufferSmall, FirstUsed}
-use Rattle.rules.specs.declared.Verdict.TheVariants.{Accepted, Refused}
-use Rattle.rules.specs.StoredTable.{no_row, checks_from, record_size, table_size, is_form, rows_in, table_verdict}
-use Rattle.rules.specs.Writing.{records_bytes, trailer_bytes, bytes_of, unused_from, unused_verdict, write_verdict}
-use Rattle.rules.proofs.Checks.{Ranged, all_ranged, ranged_at, few_rows, both_accept, test_passed}
+use Rattle.rules.specs.Answers.{Verdict, Accepted, Refused, outcome, written_outcome}
+use Rattle.rules.specs.Refusals.{must, first_refusal}
+use Rattle.rules.specs.StoredTable.{checks_from, record_size, table_size, is_form, rows_in, count_verdict, table_verdict}
+use Rattle.rules.specs.Writing.{records_bytes, trailer_bytes, bytes_of, unused_from, unused_verdict, write_verdict, told_of, left_of, written_of, buffer_after}
+use Rattle.rules.proofs.Checks.{few_rows, both_accept, test_passed}
 use Rattle.rules.proofs.Bytes.{records_length, table_length}
-use Rattle.rules.proofs.Put.{put_then}
-
--- a row among the first n, which passed the checks
-pub row_ranged : (rows : List ObjectRow) (n i : ℕ) → n ≤ length rows → i < n → checks_from 0 [] (take n rows) ≡ Accepted → Ranged (get_or rows i no_row)
-row_ranged rows n i l h e = ranged_at rows n i (all_ranged 0 [] (take n rows) e) l h
+use Rattle.rules.proofs.Put.{put_then, put_start}
+use Rattle.tables.proofs.Filling.{some_form, told_ok}
 
 -- ── Check 18 ──
 
--- the walk stands at the place `at`: the first releases before it are 0
-pub record Unused (firsts : List ℕ) (count at : ℕ) : Type 0 where
-  pub long : count ≤ length firsts
-  pub up_to : at ≤ count
-  pub state : unused_from 0 (take count firsts) ≡ unused_from at (drop at (take count firsts))
+-- what the first record with a first release other than 0 says
+abbrev used_at : Option ℕ → Verdict
+used_at None = Accepted
+used_at (Some at) = Refused FirstUsed at
 
-pub unused_none : {firsts : List ℕ} {count : ℕ} → count ≤ length firsts → Unused firsts count 0
-unused_none h = record { long = h; up_to = omega arith; state = refl }
+used_from : (at : ℕ) (firsts : List ℕ) → unused_from at firsts ≡ used_at (position_from (λ x. not (eqb x 0)) at firsts)
+used_from at [] = refl
+used_from at (x ∷ xs) = step (eqb x 0) (used_from (at + 1) xs)
+  where
+    step : (t : Bool) → unused_from (at + 1) xs ≡ used_at (position_from (λ x. not (eqb x 0)) (at + 1) xs)
+        → first_refusal (must t FirstUsed at) (unused_from (at + 1) xs) ≡ used_at (cond (not t) (Some at) (position_from (λ x. not (eqb x 0)) (at + 1) xs))
+    step true e = e
+    step false e = refl
 
-module _ {firsts : List ℕ} {count at : ℕ} (u : Unused firsts count at) where
-  pub all_unused : count ≤ at → unused_from 0 (take count firsts) ≡ Accepted
-  all_unused h =
-      let l : length (take count firsts) ≤ at = simp length-take (omega arith) in
-      rw (drop_of_length-le (take count firsts) l) at u.state
-
-  module _ (h : at < count) where
-    here : unused_from 0 (take count firsts) ≡ unused_from at (get_or firsts at 0 ∷ drop (at + 1) (take count firsts))
-    here =
-        let l : at < length (take count firsts) = simp length-take (omega arith) in
-        let e : drop at (take count firsts) ≡ get_or firsts at 0 ∷ drop (at + 1) (take count firsts) = rw (drop-cons (take count firsts) at 0 l, get_or-take count firsts at 0 h, add-one) in
-        rw e at u.state
-
-    pub one_used : (get_or firsts at 0 ≡ 0 → ⊥) → unused_from 0 (take count firsts) ≡ Refused FirstUsed at
-    one_used n = rw (ne_eqb (get_or firsts at 0) 0 n) at here
-
-    pub unused_next : get_or firsts at 0 ≡ 0 → Unused firsts count (at + 1)
-    unused_next e = record { long = u.long; up_to = omega arith; state = rw (eq-eqb (get_or firsts at 0) 0 e) at here }
+pub unused_told : (firsts : List ℕ) {at : Option ℕ} → at ≡ position (λ x. not (eqb x 0)) firsts → unused_from 0 firsts ≡ used_at at
+unused_told firsts e = rw (e, position_from-zero (λ x. not (eqb x 0)) firsts) (used_from 0 firsts)
 
 -- ── The checks passed ──
 
 pub record Writable (stored : StoredTable) (size : ℕ) : Type 0 where
+  pub form : stored.form ≡ Some (unwrap_or stored.form One)
   pub well_formed : table_verdict stored.table ≡ Accepted
   pub room : table_size stored.form stored.table.count ≤ size
 
@@ -64,26 +52,49 @@ writable stored size e =
     let table = both_accept (table_verdict stored.table) _ form.1 in
     let unused = both_accept (unused_verdict stored.form (take stored.table.count stored.firsts)) _ table.1 in
     let room = test_passed (leb (table_size stored.form stored.table.count) size) BufferSmall 0 _ unused.1 in
-    record { well_formed = table.0; room = leb-true (table_size stored.form stored.table.count) size room.0 }
+    record { form = some_form stored.form form.0; well_formed = table.0; room = leb-true (table_size stored.form stored.table.count) size room.0 }
 
 -- ── The bytes ──
 
-module _ (stored : StoredTable) (well_formed : table_verdict stored.table ≡ Accepted) (whole : length stored.table.rows ≡ 64) where
-  abbrev n : ℕ
-  n = stored.table.count
+module _ (stored : StoredTable) (buffer : List ℕ) (form : Form) (passed : Ok form ≡ outcome (write_verdict stored (length buffer)) (unwrap_or stored.form One)) where
+  verdict : write_verdict stored (length buffer) ≡ Accepted
+  verdict = (told_ok (write_verdict stored (length buffer)) (unwrap_or stored.form One) form passed).0
 
-  abbrev records : List ℕ
-  records = records_bytes stored.form (rows_in stored.table) (take n stored.firsts)
+  fits : Writable stored (length buffer)
+  fits = writable stored (length buffer) verdict
 
-  rows_count : length (rows_in stored.table) ≡ n
-  rows_count = length-take-le n stored.table.rows (omega (arith, few_rows stored.table well_formed))
+  pub form_is : stored.form ≡ Some form
+  form_is = fits.form ∙ ap Some (sym (told_ok (write_verdict stored (length buffer)) (unwrap_or stored.form One) form passed).1)
 
-  pub table_size_law : table_size stored.form n ≡ length (bytes_of stored)
-  table_size_law = rw (table_length stored.form (rows_in stored.table) (take n stored.firsts), rows_count)
+  pub few : stored.table.count ≤ 64
+  few = few_rows stored.table fits.well_formed
 
-  pub records_trailer : (buffer : List ℕ) (at : ℕ) {s : List ℕ} → at ≡ record_size stored.form * n → s ≡ sets (sets buffer 0 records) at (trailer_bytes stored.form n) → s ≡ sets buffer 0 (bytes_of stored)
-  records_trailer buffer at {s} a e =
-      let l : length records ≡ record_size stored.form * n = rw (records_length stored.form (rows_in stored.table) (take n stored.firsts), rows_count) in
-      let behind : at ≡ 0 + length records = omega arith in
-      let put : s ≡ sets buffer 0 (records ++ trailer_bytes stored.form n) = put_then 0 at records (trailer_bytes stored.form n) buffer behind refl e in
-      rw rows_count put
+  pub room : table_size (Some form) stored.table.count ≤ length buffer
+  room = subst (λ (f : Option Form). table_size f stored.table.count ≤ length buffer) form_is fits.room
+
+  pub checks : checks_from 0 [] (rows_in stored.table) ≡ Accepted
+  checks = (both_accept (count_verdict stored.table.count) _ fits.well_formed).1
+
+  abbrev rows : List ObjectRow
+  rows = rows_in stored.table
+
+  abbrev firsts : List ℕ
+  firsts = take stored.table.count stored.firsts
+
+  module _ (whole : length stored.table.rows ≡ 64) (at : ℕ) (at_is : at ≡ record_size (Some form) * stored.table.count) where
+    rows_count : length rows ≡ stored.table.count
+    rows_count = length-take-le stored.table.count stored.table.rows (omega (arith, few))
+
+    size : 8 + at ≡ length (bytes_of stored)
+    size = rw (table_length stored.form rows firsts, rows_count, form_is, at_is) refl
+
+    pub told : Ok (8 + at) ≡ written_outcome (written_of stored (length buffer))
+    told = ap Ok size ∙ sym (ap (λ (v : Verdict). written_outcome (told_of v (bytes_of stored))) verdict)
+
+    pub left : (s : List ℕ) → s ≡ sets (sets buffer 0 (records_bytes (Some form) rows firsts)) at (trailer_bytes (Some form) stored.table.count) → s ≡ buffer_after stored buffer
+    left s e =
+        let behind : at ≡ 0 + length (records_bytes (Some form) rows firsts) = rw (records_length (Some form) rows firsts, rows_count) (omega arith) in
+        let put : s ≡ sets buffer 0 (records_bytes (Some form) rows firsts ++ trailer_bytes (Some form) stored.table.count) =
+        put_then 0 at (records_bytes (Some form) rows firsts) (trailer_bytes (Some form) stored.table.count) buffer behind refl e in
+        let all : s ≡ sets buffer 0 (bytes_of stored) = rw (form_is, rows_count) put in
+        all ∙ (put_start (bytes_of stored) buffer (omega (arith, size, room)) ∙ sym (ap (λ (v : Verdict). left_of v (bytes_of stored) buffer) verdict))

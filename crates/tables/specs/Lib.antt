@@ -1,2 +1,3 @@
 pub mod Converted
 pub mod Copied
+pub mod Records

@@ -1,6 +1,6 @@
 // The two stored forms: all that sets them apart is the mark and four more bytes to a record.
-ghost use Rattle.std.specs.Prelude.{◌≡◌, ◌*◌, ◌≤◌};
-ghost use Rattle.rules.specs.StoredTable.{form_mark, is_form, record_size};
+ghost use Rattle.std.specs.Prelude.{◌≡◌, ◌*◌, ◌≤◌, Some};
+ghost use Rattle.rules.specs.StoredTable.{form_mark, record_size};
 
 use rules::Form;
 
@@ -14,23 +14,11 @@ pub(crate) const MARK_ONE: u16 = 0x4C4D;
 
 pub(crate) const MARK_TWO: u16 = 0x324D;
 
-// Whether it is one of the two.
-pub(crate) fn is_form(form: Form) -> bool
-    ensures { result ≡ is_form form }
-{
-    match form {
-        Form::NoForm => false,
-        Form::One => true,
-        Form::Two => true,
-    }
-}
-
 // The mark in the trailer.
 pub(crate) fn mark_of(form: Form) -> u16
-    ensures { result ≡ form_mark form }
+    ensures { result ≡ form_mark (Some form) }
 {
     match form {
-        Form::NoForm => 0,
         Form::One => MARK_ONE,
         Form::Two => MARK_TWO,
     }
@@ -38,10 +26,9 @@ pub(crate) fn mark_of(form: Form) -> u16
 
 // The bytes of one record.
 pub(crate) fn record_size(form: Form) -> usize
-    ensures { result ≡ record_size form }
+    ensures { result ≡ record_size (Some form) }
 {
     match form {
-        Form::NoForm => RECORD,
         Form::One => RECORD,
         Form::Two => RECORD + 4,
     }
@@ -50,7 +37,8 @@ pub(crate) fn record_size(form: Form) -> usize
 // The bytes of `count` records. The bound is said for the callers.
 pub(crate) fn records_size(form: Form, count: usize) -> usize
     requires { count ≤ 64 }
-    ensures { (result ≡ record_size form * count) × (result ≤ 1024) }
+    ensures size { result ≡ record_size (Some form) * count }
+    ensures small { result ≤ 1024 }
 {
     record_size(form) * count
 }

@@ -1,14 +1,16 @@
-// Writing a table in either form: n records and the trailer, without gap, into a lent buffer. Each byte is put by `put16`, and nothing
-// beyond what is told is touched.
-ghost use Rattle.std.specs.Prelude.{◌≡◌, [], ◌+◌, ◌*◌, ◌≤◌, length, take};
+// Writing a table in either form: n records and the trailer, without gap, into a lent buffer. Nothing beyond what is told is touched.
+// Each function takes the buffer and a place: the contracts say which bytes stand there, and the place follows from the record's number,
+// so that a writer that keeps its own place would say the same in more words.
+ghost use Rattle.std.specs.Prelude.{◌≡◌, [], ◌+◌, ◌*◌, ◌≤◌, length, Some, unwrap_or, position, not, ◌==◌};
 ghost use Rattle.std.proofs.lemmas.List.Edits.{sets};
-ghost use Rattle.rules.specs.declared.Verdict.TheVariants.{Accepted};
+ghost use Rattle.rules.specs.Answers.{checked, outcome, written_outcome, Accepted};
+ghost use Rattle.rules.specs.declared.Form.TheVariants.{One};
 ghost use Rattle.rules.specs.StoredTable.{first_size, record_size, trailer_size, most_hold, checks_from};
-ghost use Rattle.rules.specs.Writing.{row_bytes, first_bytes, record_bytes, records_bytes, trailer_bytes, unused_from, unused_verdict, write_verdict, written_of, buffer_after, form_one};
+ghost use Rattle.rules.specs.Writing.{row_bytes, first_bytes, record_bytes, records_bytes, trailer_bytes, unused_verdict, write_verdict, written_of, buffer_after, form_one};
 
-use super::forms::{RECORD, TRAILER, is_form, mark_of, record_size, records_size};
+use super::forms::{RECORD, TRAILER, mark_of, record_size, records_size};
 use super::numbers::{put16, put32};
-use rules::{Form, ObjectRow, ROWS, Refusal, StoredTable, Table, Verdict, Written};
+use rules::{Form, ObjectRow, ROWS, Refusal, Refused, StoredTable, Table};
 
 // The record of an object at `at`, as far as both forms have it. Its two bytes for the hold less one are enough for a hold that
 // passed check 6.
@@ -24,11 +26,10 @@ fn put_row(buffer: &mut [u8], at: usize, row: ObjectRow)
 
 // The first release behind it, which only form two stores.
 fn put_first(buffer: &mut [u8], form: Form, at: usize, first: u32)
-    requires { at + first_size form ≤ length buffer.old }
-    ensures { buffer.new ≡ sets buffer.old at (first_bytes form first) }
+    requires { at + first_size (Some form) ≤ length buffer.old }
+    ensures { buffer.new ≡ sets buffer.old at (first_bytes (Some form) first) }
 {
     match form {
-        Form::NoForm => {}
         Form::One => {}
         Form::Two => put32(buffer, at, first),
     }
@@ -36,121 +37,94 @@ fn put_first(buffer: &mut [u8], form: Form, at: usize, first: u32)
 
 // The whole record at `at`.
 fn put_record(buffer: &mut [u8], form: Form, at: usize, row: ObjectRow, first: u32)
-    requires { (at + record_size form ≤ length buffer.old) × (1 ≤ row.hold) × (row.hold ≤ most_hold) }
-    ensures { buffer.new ≡ sets buffer.old at (record_bytes form row first) }
+    requires { (at + record_size (Some form) ≤ length buffer.old) × (1 ≤ row.hold) × (row.hold ≤ most_hold) }
+    ensures { buffer.new ≡ sets buffer.old at (record_bytes (Some form) row first) }
 {
     put_row(buffer, at, row);
     put_first(buffer, form, at + RECORD, first);
 }
 
-// The records of the first `count` rows, which passed the checks, from the start of the buffer on.
-fn put_records(
-    buffer: &mut [u8],
-    form: Form,
-    rows: [ObjectRow; ROWS],
-    firsts: [u32; ROWS],
-    count: usize,
-)
-    requires { (count ≤ 64) × (record_size form * count ≤ length buffer.old) × (checks_from 0 [] (take count rows) ≡ Accepted) }
-    ensures { buffer.new ≡ sets buffer.old 0 (records_bytes form (take count rows) (take count firsts)) }
+// The records of rows that passed the checks, with their first releases, from the start of the buffer on.
+fn put_records(buffer: &mut [u8], form: Form, rows: &[ObjectRow], firsts: &[u32])
+    requires paired { length firsts.now ≡ length rows.now }
+    requires room { record_size (Some form) * length rows.now ≤ length buffer.old }
+    requires well_formed { checks_from 0 [] rows.now ≡ Accepted }
+    ensures { buffer.new ≡ sets buffer.old 0 (records_bytes (Some form) rows.now firsts.now) }
 {
     let size = record_size(form);
-    for i in 0..count {
-        put_record(buffer, form, size * i, rows[i], firsts[i]);
+    for (i, (row, first)) in rows.iter().zip(firsts).enumerate() {
+        put_record(buffer, form, size * i, *row, *first);
     }
 }
 
 // The trailer of `count` records at `at`.
 fn put_trailer(buffer: &mut [u8], form: Form, at: usize, count: usize)
     requires { (count ≤ 64) × (at + trailer_size ≤ length buffer.old) }
-    ensures { buffer.new ≡ sets buffer.old at (trailer_bytes form count) }
+    ensures { buffer.new ≡ sets buffer.old at (trailer_bytes (Some form) count) }
 {
     put32(buffer, at, (TRAILER + records_size(form, count)) as u32);
     put16(buffer, at + 4, count as u16);
     put16(buffer, at + 6, mark_of(form));
 }
 
-// Whether the first `count` first releases are 0, or 18 with the first record whose is not.
-fn check_zeros(firsts: [u32; ROWS], count: usize) -> Verdict
-    requires { count ≤ 64 }
-    ensures { result ≡ unused_from 0 (take count firsts) }
+// The first record whose first release is not 0.
+fn first_used(firsts: &[u32]) -> Option<usize>
+    ensures { result ≡ position (λ first. not (first == 0)) firsts.now }
 {
-    for at in 0..count {
-        if firsts[at] != 0 {
-            return Verdict::Refused(Refusal::FirstUsed, at);
-        }
-    }
-    Verdict::Accepted
+    firsts.iter().position(|first| *first != 0)
 }
 
 // Check 18: form one has no place for a first release.
-fn check_unused(form: Form, firsts: [u32; ROWS], count: usize) -> Verdict
-    requires { count ≤ 64 }
-    ensures { result ≡ unused_verdict form (take count firsts) }
+fn check_unused(form: Form, firsts: &[u32]) -> Result<(), Refused>
+    ensures { result ≡ checked (unused_verdict (Some form) firsts.now) }
 {
     match form {
-        Form::NoForm => Verdict::Accepted,
-        Form::One => check_zeros(firsts, count),
-        Form::Two => Verdict::Accepted,
+        Form::One => match first_used(firsts) {
+            Some(at) => Err(Refusal::FirstUsed.at(at)),
+            None => Ok(()),
+        },
+        Form::Two => Ok(()),
     }
 }
 
-// Whether a buffer of `size` bytes can take it: 3 where it is of neither form, 4, 7, 6, 8, 9, then 18, then 16.
-fn check_writing(stored: StoredTable, size: usize) -> Verdict
-    ensures { result ≡ write_verdict stored size }
+// Whether a buffer of `size` bytes can take it, and the form: 3 where it is of neither form, 4, 7, 6, 8, 9, then 18, then 16.
+fn check_writing(stored: &StoredTable, size: usize) -> Result<Form, Refused>
+    ensures { result ≡ outcome (write_verdict stored.now size) (unwrap_or stored.now.form One) }
 {
-    let form = stored.form;
-    if !is_form(form) {
-        return Verdict::Refused(Refusal::WrongMark, 0);
-    }
-    let table = stored.table;
-    let checked = rules::check_table(table);
-    let Verdict::Accepted = checked else {
-        return checked;
+    let Some(form) = stored.form else {
+        return Err(Refusal::WrongMark.at(0));
     };
-    let firsts = stored.firsts;
-    let count = table.count;
-    let unused = check_unused(form, firsts, count);
-    let Verdict::Accepted = unused else {
-        return unused;
-    };
+    rules::check_table(stored.table)?;
+    let count = stored.table.count;
+    check_unused(form, &stored.firsts[..count])?;
     if size < TRAILER + records_size(form, count) {
-        return Verdict::Refused(Refusal::BufferSmall, 0);
+        return Err(Refusal::BufferSmall.at(0));
     }
-    Verdict::Accepted
+    Ok(form)
 }
 
 // The table in its form at the start of the buffer: how many bytes it takes, or the refusal, and the buffer is untouched.
-pub fn write_stored(stored: StoredTable, buffer: &mut [u8]) -> Written
-    ensures { (buffer.new ≡ buffer_after stored buffer.old) × (result ≡ written_of stored (length buffer.old)) }
+pub fn write_stored(stored: StoredTable, buffer: &mut [u8]) -> Result<usize, Refused>
+    ensures buffer { buffer.new ≡ buffer_after stored buffer.old }
+    ensures told { result ≡ written_outcome (written_of stored (length buffer.old)) }
 {
-    let verdict = check_writing(stored, buffer.len());
-    let Verdict::Accepted = verdict else {
-        return Written { verdict, size: 0 };
-    };
-    let form = stored.form;
-    let table = stored.table;
-    let rows = table.rows;
-    let firsts = stored.firsts;
-    let count = table.count;
+    let form = check_writing(&stored, buffer.len())?;
+    let count = stored.table.count;
     let records = records_size(form, count);
-    put_records(buffer, form, rows, firsts, count);
+    put_records(buffer, form, stored.table.used(), &stored.firsts[..count]);
     put_trailer(buffer, form, records, count);
-    Written {
-        verdict,
-        size: TRAILER + records,
-    }
+    Ok(TRAILER + records)
 }
 
 // A table without first releases: in form one.
-pub fn write(table: Table, buffer: &mut [u8]) -> Written
-    ensures { (buffer.new ≡ buffer_after (form_one table) buffer.old) × (result ≡ written_of (form_one table) (length buffer.old)) }
+pub fn write(table: Table, buffer: &mut [u8]) -> Result<usize, Refused>
+    ensures buffer { buffer.new ≡ buffer_after (form_one table) buffer.old }
+    ensures told { result ≡ written_outcome (written_of (form_one table) (length buffer.old)) }
 {
-    let firsts = [0; ROWS];
     let stored = StoredTable {
-        form: Form::One,
+        form: Some(Form::One),
         table,
-        firsts,
+        firsts: [0; ROWS],
     };
     write_stored(stored, buffer)
 }

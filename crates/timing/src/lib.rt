@@ -6,7 +6,7 @@ ghost use Rattle.std.specs.Prelude.{◌≡◌};
 ghost use Rattle.rules.specs.Run.{start_of};
 ghost use Rattle.timing.specs.InPlace.{in_place_of, seen_of};
 
-use rules::{Run, Started, Table};
+use rules::{ROWS, Run, Table};
 
 // What is seen of a run: its clock, and the numbers of one row.
 #[repr(C)]
@@ -24,11 +24,8 @@ fn slots_in_place(start: Run, stolen: &[u8]) -> Run
     ensures { result ≡ in_place_of start stolen.now }
 {
     let mut run = start;
-    let mut k: usize = 0;
-    while k < stolen.len() {
-        let flag = stolen[k] != 0;
-        running::slot_in_place(&mut run, flag);
-        k = k + 1;
+    for &byte in stolen {
+        let _ = running::slot_in_place(&mut run, byte != 0);
     }
     run
 }
@@ -37,14 +34,23 @@ fn slots_in_place(start: Run, stolen: &[u8]) -> Run
 fn seen_at(run: Run, place: u8) -> Seen
     ensures { result ≡ seen_of run place }
 {
-    let at = (place % 64) as usize;
-    let row = run.rows[at];
+    let row = run.rows[usize::from(place) % ROWS];
     Seen {
         clock: run.clock,
         next: row.next,
         left: row.left,
         sample: row.sample,
         skips: row.skips,
+    }
+}
+
+// The run that starts; a refused start is a run with count 0.
+fn started(table: Table, clock: u32, firsts: &[u32]) -> Run
+    ensures { result ≡ (start_of table clock firsts.now).run }
+{
+    match running::start(table, clock, firsts) {
+        Ok(run) => run,
+        Err(_) => Run::empty(),
     }
 }
 
@@ -60,7 +66,7 @@ pub extern "C" fn timing_slots(
 ) -> Seen
     ensures { result ≡ seen_of (in_place_of (start_of table clock firsts.now).run stolen.now) place }
 {
-    let started = running::start(table, clock, firsts);
-    let run = slots_in_place(started.run, stolen);
+    let start = started(table, clock, firsts);
+    let run = slots_in_place(start, stolen);
     seen_at(run, place)
 }

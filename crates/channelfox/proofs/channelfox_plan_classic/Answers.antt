@@ -1,6 +1,7 @@
 -- `channelfox_plan_classic` meets its contract. Assumes nothing.
-use mathlib.Core.Path.{◌∙◌}
+use Rattle.std.proofs.Common.{◌∙◌}
+use Rattle.channelfox.proofs.Answered.{classic_same}
 use Rattle.channelfox.proofs.channelfox_plan_classic.Goals as goal
 
 pub returns : goal.returns
-returns c = c.plan_form.ensures ∙ rw c.plan_classic.ensures
+returns c = c.from.ensures ∙ rw c.plan_classic.ensures (classic_same c.args.table)

@@ -1,15 +1,8 @@
--- `channelfox::channelfox_plan_stored` meets its contract. Assumes nothing.
-use mathlib.Core.Path.{◌∙◌}
+-- `channelfox_plan_stored` meets its contract. Assumes nothing.
+use Rattle.std.proofs.Common.{◌∙◌}
+use Rattle.rules.specs.StoredTable.{read_of}
+use Rattle.channelfox.proofs.Answered.{planned_stored_same}
 use Rattle.channelfox.proofs.channelfox_plan_stored.Goals as goal
 
-pub returns-in-Accepted : goal.returns-in-Accepted
-returns-in-Accepted c =
-    let r = c.read-answer.ensures in
-    let e = c.in-Accepted.is in
-    c.plan_form.ensures ∙ rw (c.plan_table.ensures, ← r, e)
-
-pub returns-in-Refused : goal.returns-in-Refused
-returns-in-Refused c =
-    let r = c.read-answer.ensures in
-    let e = c.in-Refused.is in
-    c.plan_form-in-Refused.ensures ∙ rw (c.empty_plan.ensures, ← r, e)
+pub returns : goal.returns
+returns c = c.from.ensures ∙ rw c.plan_stored.ensures (planned_stored_same (read_of c.args.bytes.now))

@@ -1,10 +1,11 @@
 -- `channelfox_write_stored` meets its contract. Assumes nothing.
-use mathlib.Core.Path.{ap, ◌∙◌}
-use Rattle.channelfox.specs.Forms.{written_form}
+use Rattle.std.proofs.Common.{◌∙◌, length}
+use Rattle.channelfox.specs.Forms.{stored_table}
+use Rattle.channelfox.proofs.Answered.{written_same}
 use Rattle.channelfox.proofs.channelfox_write_stored.Goals as goal
 
 pub returns : goal.returns
 returns c =
-    let w = c.write_stored.ensures in
-    let s = c.stored_table.ensures in
-    (w.0 ∙ rw s, c.written_form.ensures ∙ ap written_form w.1 ∙ rw s)
+    let a = c.args in
+    let s = c.from.ensures in
+    (c.write_stored.ensures.buffer ∙ rw s, c.from-2.ensures ∙ rw (c.write_stored.ensures.told, s) (written_same (stored_table a.stored) (length a.buffer.now)))

@@ -7,7 +7,7 @@ pub use Rattle.rules.specs.declared.Run.{Run}
 pub use Rattle.rules.specs.declared.PlanRow.{PlanRow}
 pub use Rattle.rules.specs.declared.RunRow.{RunRow}
 pub use Rattle.rules.specs.declared.Stored.TheVariants.{Held}
-pub use Rattle.rules.specs.declared.Verdict.TheVariants.{Accepted}
+pub use Rattle.rules.specs.Answers.{Accepted}
 -- the number and the place that an answer tells
 pub use Rattle.rules.specs.Refusals.{Told, ◌at_place◌, told, reading_told}
 -- its checks, its plan, when a run state is acceptable, and the run

@@ -1,61 +1,40 @@
--- `rules::check_table` meets its contract: the walk stands at `at` with the records before it passed. Assumes nothing.
-use mathlib.Core.Path.{◌≡◌, refl, sym, ◌∙◌}
-use native.Mathlib.Omega.{arith}
-use borrow.Author.Rules.{rules}
-use borrow.Author.Tests.{not-true, not-false}
-use Rattle.rules.proofs.Checks.{decided, has_next, has_at, count_few, count_many, passed_none, all_passed, cost_out, hold_out, validity_out, id_again, passed_next}
+-- `rules::check_table` meets its contract: each row that passes goes on, and the first that does not decides. Assumes nothing.
+use Rattle.std.proofs.Common.{ℕ, ◌≡◌, Some, None, sym, ◌∙◌, arith, rules, take_all}
+use Rattle.rules.proofs.Checks.{decided, has_at, has_next, row_out, id_again, passed_next}
+use Rattle.rules.proofs.Outcomes.{accepted, refused}
+use Rattle.rules.proofs.check_table.Goals.{else-records-test, then-records-test+in_ok-check_row+then-loop-before-test+then-before-row}
 use Rattle.rules.proofs.check_table.Goals as goal
 
-pub returns-then-count-lt1 : goal.returns-then-count-lt1
-returns-then-count-lt1 c = simp (count_few _ c.if-count-lt1.true)
+some_none : {n : ℕ} → Some n ≡ None → ⊥
+some_none e = let z : ◌≡◌ {A = ℕ} 0 1 = cc in omega arith
 
-pub returns-then-count-gt-ROWS : goal.returns-then-count-gt-ROWS
-returns-then-count-gt-ROWS c = simp (count_many _ c.if-count-gt-ROWS.true)
+some_same : {m n : ℕ} → Some m ≡ Some n → m ≡ n
+some_same e = cc
 
-pub records-init : goal.records-init
-records-init c = let l = c.well_formed.0.1.1.1.0.1.0.1 in passed_none (omega arith)
-
-pub returns-then-count-at : goal.returns-then-count-at
-returns-then-count-at c =
-    decided c.args.table c.if-count-lt1.false c.if-count-gt-ROWS.false (all_passed c.records.invariant c.if-count-at.true)
-
-pub returns-then-not-in_range : goal.returns-then-not-in_range
-returns-then-not-in_range c =
-    let e = sym c.in_range.ensures ∙ not-true _ c.if-not-in_range.true-raw in
-    decided c.args.table c.if-count-lt1.false c.if-count-gt-ROWS.false (cost_out c.records.invariant c.if-count-at.false e)
-
-pub returns-then-not-hold_ok : goal.returns-then-not-hold_ok
-returns-then-not-hold_ok c =
-    let e = sym c.in_range.ensures ∙ not-false _ c.if-not-in_range.false-raw in
-    let d = sym c.hold_ok.ensures ∙ not-true _ c.if-not-hold_ok.true-raw in
-    decided c.args.table c.if-count-lt1.false c.if-count-gt-ROWS.false (hold_out c.records.invariant c.if-count-at.false e d)
-
-pub returns-then-not-in_range-2 : goal.returns-then-not-in_range-2
-returns-then-not-in_range-2 c =
-    let e = sym c.in_range.ensures ∙ not-false _ c.if-not-in_range.false-raw in
-    let d = sym c.hold_ok.ensures ∙ not-false _ c.if-not-hold_ok.false-raw in
-    let f = sym c.in_range-in-records.ensures ∙ not-true _ c.if-not-in_range-2.true-raw in
-    decided c.args.table c.if-count-lt1.false c.if-count-gt-ROWS.false (validity_out c.records.invariant c.if-count-at.false e d f)
-
-pub loop-before-init : goal.loop-before-init
-loop-before-init c = (search rules, refl)
+pub returns-in_err-check_row : goal.returns-in_err-check_row
+returns-in_err-check_row c =
+    let v = refused _ _ _ (sym c.check_row.ensures ∙ c.in_err-check_row.was) in
+    let out = row_out c.records.invariant.passed c.records-test.true v in
+    rw (decided c.args.table c.if-table-lt1.false c.if-table-gt-ROWS.false (rw c.records.invariant.used at out)) (search rules)
 
 pub loop-before-preserved : goal.loop-before-preserved
 loop-before-preserved c =
-    (search rules, has_next _ c.loop-before.before c.args.table.rows (search rules) c.loop-before.invariant.1 c.if-rows-before.false)
+    record { new = has_next _ c.loop-before.before-index _ c.loop-before-test.true c.loop-before.invariant.new c.if-before-row.false; none_yet = c.loop-before.invariant.none_yet }
 
 pub records-preserved : goal.records-preserved
 records-preserved c =
-    let e = sym c.in_range.ensures ∙ not-false _ c.if-not-in_range.false-raw in
-    let d = sym c.hold_ok.ensures ∙ not-false _ c.if-not-hold_ok.false-raw in
-    let f = sym c.in_range-in-records.ensures ∙ not-false _ c.if-not-in_range-2.false-raw in
-    let b : c.loop-before.before ≡ c.records.at = omega arith in
-    passed_next c.records.invariant c.if-count-at.false e d f (rw b at c.loop-before.invariant.1)
+    let v = accepted _ _ _ (sym c.check_row.ensures ∙ c.in_ok-check_row.was) in
+    let new = rw (take_all _ _ c.loop-before-test.false) at c.loop-before.invariant.new in
+    record { passed = passed_next c.records.invariant.passed c.records-test.true v new; used = c.records.invariant.used; none_yet = c.loop-before.invariant.none_yet }
 
-pub returns : goal.returns
-returns c =
-    let e = sym c.in_range.ensures ∙ not-false _ c.if-not-in_range.false-raw in
-    let d = sym c.hold_ok.ensures ∙ not-false _ c.if-not-hold_ok.false-raw in
-    let f = sym c.in_range-in-records.ensures ∙ not-false _ c.if-not-in_range-2.false-raw in
-    let g = has_at _ c.records.at c.loop-before.before c.args.table.rows (search rules) (search rules) c.if-rows-before.true in
-    decided c.args.table c.if-count-lt1.false c.if-count-gt-ROWS.false (id_again c.records.invariant c.if-count-at.false e d f g)
+pub returns-in-Some : goal.returns-in-Some
+returns-in-Some c =
+    elim c.records-test.branch [
+      | else-records-test w ↦ absurd (some_none (sym c.in-Some.is ∙ (w.repeated-is ∙ c.records.invariant.none_yet)))
+      | then-records-test+in_ok-check_row+then-loop-before-test+then-before-row w ↦
+          let v = accepted _ _ _ (sym w.check_row.ensures ∙ w.in_ok-check_row.was) in
+          let has = has_at _ w.loop-before.before-index _ w.loop-before-test.true w.if-before-row.true in
+          let out = id_again c.records.invariant.passed w.records-test.true v has in
+          let at = some_same (sym c.in-Some.is ∙ w.repeated-is) in
+          rw (decided c.args.table c.if-table-lt1.false c.if-table-gt-ROWS.false (rw c.records.invariant.used at out), sym at) (search rules)
+    ]

@@ -1,14 +1,12 @@
 -- `running::starting::start_stored` meets its contract. Assumes nothing.
-use Rattle.std.proofs.Common.{◌-◌, refl, ◌∙◌, arith}
+use Rattle.std.proofs.Common.{sym, ap, ◌∙◌, rules}
+use Rattle.rules.specs.Answers.{start_outcome}
 use Rattle.running.proofs.FromStored.{read_refused, started}
 use Rattle.running.proofs.starting.start_stored.Goals as goal
 
-pub returns-in-Refused : goal.returns-in-Refused
-returns-in-Refused c =
-    let a = c.args in
-    c.refused_start.ensures ∙ read_refused a.bytes.now a.clock c.read-answer.ensures c.in-Refused.is
+pub returns-in_err-stored : goal.returns-in_err-stored
+returns-in_err-stored c = rw (read_refused c.args.bytes.now _ (sym c.read.ensures ∙ c.in_err-stored.was)) (search rules)
 
 pub returns : goal.returns
 returns c =
-    let a = c.before.args in
-    started a.bytes.now a.clock c.read-answer.ensures c.in_default.is (c.read-answer.result.stored.table.count - 0) (omega arith) c.first_releases-firsts.ensures refl c.start.ensures
+    c.start.ensures ∙ ap start_outcome (started c.args.bytes.now c.in_ok-stored.stored (sym c.read.ensures ∙ c.in_ok-stored.was) c.args.clock c.first_releases-firsts.result c.first_releases-firsts.ensures)

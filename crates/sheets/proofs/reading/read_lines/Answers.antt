@@ -1,40 +1,31 @@
--- `sheets::reading::read_lines` meets its contract: after each turn the lines before `at` are read. Assumes nothing.
-use Prim.Native.Nat.{◌<◌}
-use native.Mathlib.Omega.{arith}
-use mathlib.Core.Path.{◌∙◌}
-use lib.ListN.{length}
-use Rattle.sheets.proofs.Walked.{walked_none, all_read, bad_line_law, walked_kept, walked_full}
-use borrow.Author.Rules.{rules}
+-- `sheets::reading::read_lines` meets its contract: after each turn the lines before the rest are read. Assumes nothing.
+use Rattle.std.proofs.Common.{◌≡◌, ◌<◌, ◌∙◌, length, rules, tests, ap}
+use Rattle.rules.specs.Answers.{read_outcome}
+use Rattle.sheets.proofs.Walked.{walked_none, all_read, bad_line_law, line_shorter, walked_kept, walked_full}
 use Rattle.sheets.proofs.reading.read_lines.Goals as goal
 use Rattle.sheets.proofs.reading.read_lines.Goals.{then-count-lt-ROWS, else-count-lt-ROWS}
 
-pub loop-at-init : goal.loop-at-init
-loop-at-init c = rw c.empty_row-none.ensures (walked_none c.args.bytes.now)
-
-pub read_line-line-requires : goal.read_line-line-requires
-read_line-line-requires c = c.loop-at.invariant.within
+pub loop-rest-init : goal.loop-rest-init
+loop-rest-init c = rw c.empty-rows.ensures (walked_none c.args.bytes.now)
 
 pub returns-in_default : goal.returns-in_default
-returns-in_default c = c.refused_read.ensures ∙ bad_line_law c.loop-at.invariant c.loop-at-test.true (rw c.in_default.is at c.read_line-line.ensures)
+returns-in_default c =
+    let more : 0 < length c.loop-rest.rest.now = search (rules, tests) in
+    rw c.at.ensures (ap read_outcome (bad_line_law c.loop-rest.invariant more c.in_default.ensures))
 
-pub overflow_add-count : goal.overflow_add-count
-overflow_add-count c = let big : length c.args.bytes.now < 18446744073709551616 = search rules in omega (arith, big, c.loop-at.invariant.fewer, c.loop-at-test.true)
+pub loop-rest-smaller : goal.loop-rest-smaller
+loop-rest-smaller c = line_shorter _ _ _ c.in-Some.ensures
 
-pub loop-at-smaller : goal.loop-at-smaller
-loop-at-smaller c =
-    let line = rw c.in-Read.is at c.read_line-line.ensures in
-    omega (arith, line.1, c.loop-at-test.true)
-
-pub loop-at-preserved : goal.loop-at-preserved
-loop-at-preserved c =
-    let line = rw c.in-Read.is at c.read_line-line.ensures in
-    let w = c.loop-at.invariant in
-    let more = c.loop-at-test.true in
-    let next = c.in-Read.next in
+pub loop-rest-preserved : goal.loop-rest-preserved
+loop-rest-preserved c =
+    let w = c.loop-rest.invariant in
+    let more : 0 < length c.loop-rest.rest.now = search (rules, tests) in
     elim c.if-count-lt-ROWS.branch [
-      | then-count-lt-ROWS t ↦ walked_kept w more next line.0 line.1.0 line.1.1 t.if-count-lt-ROWS.true t.rows-is
-      | else-count-lt-ROWS t ↦ walked_full w more next line.0 line.1.0 line.1.1 t.if-count-lt-ROWS.false t.rows-is
+      | then-count-lt-ROWS t ↦ walked_kept w more c.in-Some.ensures t.if-count-lt-ROWS.true t.rows-is
+      | else-count-lt-ROWS t ↦ walked_full w more c.in-Some.ensures t.if-count-lt-ROWS.false t.rows-is
     ]
 
 pub returns : goal.returns
-returns c = c.check_answer.ensures ∙ all_read c.loop-at.invariant c.loop-at-test.false
+returns c =
+    let none : length c.loop-rest.rest.now ≡ 0 = search (rules, tests) in
+    c.check_answer.ensures ∙ ap read_outcome (all_read c.loop-rest.invariant none)

@@ -1,11 +1,10 @@
--- `sheets::reading::read_lines` meets its contract: after each turn the lines before `at` are read. Assumes nothing.
-use Prim.Native.Nat.{◌-◌}
-use lib.ListN.{length}
+-- `sheets::reading::read_lines` meets its contract: after each turn the lines before the rest are read. Assumes nothing.
+use Rattle.std.proofs.Common.{length}
 use Rattle.sheets.proofs.Walked.{Walked}
 use Rattle.sheets.proofs.reading.read_lines.Given as goal
 
-abbrev pub invariant-loop-at : goal.invariant-loop-at
-invariant-loop-at l = Walked l.bytes l.rows l.count l.at
+abbrev pub invariant-loop-rest : goal.invariant-loop-rest
+invariant-loop-rest l = Walked l.bytes l.rows l.count l.rest
 
-abbrev pub decreases-loop-at : goal.decreases-loop-at
-decreases-loop-at l = length l.bytes - l.at
+abbrev pub decreases-loop-rest : goal.decreases-loop-rest
+decreases-loop-rest l = length l.rest

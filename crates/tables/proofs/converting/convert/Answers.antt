@@ -1,33 +1,28 @@
--- `tables::converting::convert` meets its contract: each return is one case. Assumes nothing.
-use mathlib.Core.Path.{◌≡◌, sym, ◌∙◌}
-use lib.ListN.{length}
-use Rattle.rules.specs.Writing.{bytes_of}
+-- `tables::converting::convert` meets its contract: where nothing is refused before, what was read is written in the other form. Assumes nothing.
+use Rattle.std.proofs.Common.{◌≡◌, refl, sym, length}
 use Rattle.rules.specs.Converting.{converted_from}
-use Rattle.rules.proofs.Put.{put_refused}
-use Rattle.tables.proofs.Converted.{from_refused, read_refused, converted}
-use Rattle.tables.proofs.Filling.{read_verdict_law, read_stored}
+use Rattle.rules.proofs.Outcomes.{accepted}
+use Rattle.tables.specs.Converted.{from_verdict}
+use Rattle.tables.proofs.Converted.{told, left}
+use Rattle.tables.proofs.Filling.{read_accepted}
 use Rattle.tables.proofs.converting.convert.Goals as goal
 
-pub returns-in_default : goal.returns-in_default
-returns-in_default c =
+pub returns-clause-buffer : goal.returns-clause-buffer
+returns-clause-buffer c =
     let a = c.args in
     let s = a.bytes.now in
-    let refused = c.in_default.is in
-    put_refused _ _ (bytes_of (converted_from a.from s)) a.buffer.now (refused ∙ sym (from_refused a.from s (length a.buffer.now) (sym c.check_from-verdict.ensures ∙ refused))) refused
+    let held = c.in_ok-stored.stored in
+    let passed = accepted (from_verdict a.from s) tt _ (sym c.in_ok-check_from.ensures) in
+    let read = read_accepted s held c.in_ok-stored.ensures in
+    let same : record { form = c.other_form.result; table = held.table; firsts = held.firsts } ≡ converted_from a.from s = rw (c.other_form.ensures, read.1) refl in
+    left a.from s passed read.0 same a.buffer.now c.write_stored.ensures.buffer
 
-pub returns-in_default-verdict : goal.returns-in_default-verdict
-returns-in_default-verdict c =
+pub returns-clause-told : goal.returns-clause-told
+returns-clause-told c =
     let a = c.args in
     let s = a.bytes.now in
-    let refused = c.in_default-verdict.is in
-    let passed = sym c.check_from-verdict.ensures ∙ c.in-Accepted.is in
-    put_refused _ _ (bytes_of (converted_from a.from s)) a.buffer.now (refused ∙ sym (read_refused a.from s (length a.buffer.now) passed (read_verdict_law s c.read-answer.ensures ∙ refused))) refused
-
-pub returns : goal.returns
-returns c =
-    let a = c.args in
-    let s = a.bytes.now in
-    let read = c.in-Accepted-verdict.is in
-    let held = c.read-answer.result.stored in
-    let same : record { form = c.other_form.result; table = held.table; firsts = held.firsts } ≡ converted_from a.from s = rw (c.other_form.ensures, read_stored s c.read-answer.ensures read) in
-    converted a.from s a.buffer.now (sym c.check_from-verdict.ensures ∙ c.in-Accepted.is) (read_verdict_law s c.read-answer.ensures ∙ read) same c.write_stored.ensures
+    let held = c.in_ok-stored.stored in
+    let passed = accepted (from_verdict a.from s) tt _ (sym c.in_ok-check_from.ensures) in
+    let read = read_accepted s held c.in_ok-stored.ensures in
+    let same : record { form = c.other_form.result; table = held.table; firsts = held.firsts } ≡ converted_from a.from s = rw (c.other_form.ensures, read.1) refl in
+    told a.from s passed read.0 same (length a.buffer.now) c.write_stored.ensures.told

@@ -1,11 +1,10 @@
 -- `tables::numbers::put16` meets its contract. Assumes nothing.
-use native.Mathlib.Omega.{arith}
-use native.Mathlib.Numerals.{add-one}
-use lib.ListN.{length-set}
+use Rattle.std.proofs.Common.{◌∙◌, ◌+◌, ◌-◌, arith}
+use Rattle.rules.specs.Writing.{bytes16}
+use Rattle.tables.proofs.Bytes.{put_mid-sets, two_bytes}
 use Rattle.tables.proofs.numbers.put16.Goals as goal
 
-pub bounds-buffer-at-2 : goal.bounds-buffer-at-2
-bounds-buffer-at-2 c = simp length-set (omega (arith, c.requires))
-
 pub returns : goal.returns
-returns c = rw add-one
+returns c =
+    let a = c.args in
+    put_mid-sets a.at (a.at + 2 - a.at) a.buffer.now c.copy_from_slice.new.self (bytes16 a.x) (c.copy_from_slice.ensures.after ∙ (c.to_le_bytes.ensures ∙ two_bytes a.x (omega arith))) (omega arith) (omega arith)

@@ -1,29 +1,8 @@
--- `tables::reading::rows_from` meets its contract: after n turns the first n records are in. Assumes nothing.
-use mathlib.Core.Path.{◌≡◌}
-use native.Mathlib.Omega.{arith}
+-- `tables::reading::rows_from` meets its contract. Assumes nothing.
+use Rattle.std.proofs.Common.{rules, tests}
 use Rattle.rules.specs.StoredTable.{no_row, row_of}
-use Rattle.tables.proofs.Filling.{record_before, fill_next}
-use borrow.Author.Rules.{rules}
+use Rattle.tables.proofs.Filling.{filled_by}
 use Rattle.tables.proofs.reading.rows_from.Goals as goal
 
-pub loop-n-init : goal.loop-n-init
-loop-n-init c = (search rules, rw c.empty_row-none.ensures)
-
-pub overflow_mul-size : goal.overflow_mul-size
-overflow_mul-size c = let b = record_before c.args.size c.loop-n.n c.args.count c.loop-n-test.true in omega (arith, c.requires.1)
-
-pub overflow_add-start : goal.overflow_add-start
-overflow_add-start c = let b = record_before c.args.size c.loop-n.n c.args.count c.loop-n-test.true in omega (arith, c.requires.1)
-
-pub row_at-requires : goal.row_at-requires
-row_at-requires c = let b = record_before c.args.size c.loop-n.n c.args.count c.loop-n-test.true in omega (arith, c.requires.1, c.requires.2)
-
-pub loop-n-preserved : goal.loop-n-preserved
-loop-n-preserved c =
-    let a = c.args in
-    (search rules, rw (c.row_at.ensures, c.loop-n.invariant.1) (fill_next row_of no_row a.size a.bytes.now a.start c.loop-n.n (search rules)))
-
 pub returns : goal.returns
-returns c =
-    let e : c.loop-n.n ≡ c.args.count = omega arith in
-    rw e at c.loop-n.invariant.1
+returns c = filled_by row_of no_row c.args.bytes.now c.args.records _ _ c.from_fn.result c.requires.few c.from_fn.ensures.items (λ i y q k. search (rules, tests))

@@ -1,50 +1,66 @@
--- `tables::writing::put_records` meets its contract: after i turns the first i records are put. Assumes nothing.
-use Prim.Native.Nat.{◌+◌, ◌*◌, ◌≤◌, ◌<◌}
-use mathlib.Core.Path.{◌≡◌, refl}
-use native.Mathlib.Omega.{arith}
-use lib.ListN.{length, take, get_or}
-use lib.Seq.{length-sets, length-take-le}
-use Rattle.rules.specs.Order.{row_at}
+-- `tables::writing::put_records` meets its contract: after some turns as many records are put. Assumes nothing.
+use Rattle.std.proofs.Common.{◌≡◌, ◌+◌, ◌*◌, ◌≤◌, arith, length, take, get_or, Some, []}
+use Rattle.std.specs.List.{zip}
+use Rattle.std.proofs.lemmas.Iterator.Consumers.{YieldsList-turn, YieldsList-end}
+use Rattle.std.proofs.lemmas.List.{length-take-le, take_all, length_push}
+use Rattle.std.proofs.lemmas.List.FromFn.{length-enumerate_from}
+use Rattle.std.proofs.lemmas.Slice.Zip.{length-zip}
+use Rattle.rules.specs.StoredTable.{no_row}
 use Rattle.rules.specs.Writing.{record_bytes, records_bytes}
 use Rattle.rules.proofs.Bytes.{records_length, records_next}
+use Rattle.rules.proofs.Checks.{Ranged, all_ranged}
+use Rattle.rules.proofs.Lists.{every_at}
 use Rattle.rules.proofs.Put.{put_then}
 use Rattle.tables.proofs.Filling.{record_before}
-use Rattle.tables.proofs.Wrote.{row_ranged}
-use borrow.Author.Rules.{rules}
+use Rattle.tables.proofs.Paired.{in_turn, turn}
 use Rattle.tables.proofs.writing.put_records.Goals as goal
-
-pub loop-i-init : goal.loop-i-init
-loop-i-init c = (search rules, refl)
 
 pub overflow_mul-size : goal.overflow_mul-size
 overflow_mul-size c =
     let a = c.args in
+    let l = c.loop-i in
+    let rows = a.rows.now in
     let z = c.record_size-size.result in
-    let all : z * a.count ≤ length a.buffer.now = rw c.record_size-size.ensures c.requires.1 in
-    omega (arith, record_before z c.loop-i.i a.count c.loop-i-test.true)
+    let n = length l.yielded in
+    let s = c.in-Some in
+    let t = turn rows a.firsts.now n s.i s.row.now s.first.now (YieldsList-turn (in_turn rows a.firsts.now (cc) (cc) (cc)) l.yielded l.i-iterator l.yielded_by _ c.next.new.self (s.i, (s.row, s.first)) s.is c.next.ensures.steps) in
+    let all : z * length rows ≤ length a.buffer.now = rw c.record_size-size.ensures c.requires.room in
+    rw t.at (omega (arith, record_before z n (length rows) t.in_rows))
 
 pub put_record-requires : goal.put_record-requires
 put_record-requires c =
     let a = c.args in
     let l = c.loop-i in
+    let rows = a.rows.now in
     let z = c.record_size-size.result in
-    let all : z * a.count ≤ length a.buffer.now = rw c.record_size-size.ensures c.requires.1 in
-    let e : length l.buffer ≡ length a.buffer.now = rw l.invariant.1 (length-sets a.buffer.now 0 (records_bytes a.form (take l.i a.rows) (take l.i a.firsts))) in
-    let r = row_ranged a.rows a.count l.i (search rules) c.loop-i-test.true c.requires.2 in
-    (omega (arith, e, c.record_size-size.ensures, record_before z l.i a.count c.loop-i-test.true), r.hold_from, r.hold_to)
+    let n = length l.yielded in
+    let s = c.in-Some in
+    let t = turn rows a.firsts.now n s.i s.row.now s.first.now (YieldsList-turn (in_turn rows a.firsts.now (cc) (cc) (cc)) l.yielded l.i-iterator l.yielded_by _ c.next.new.self (s.i, (s.row, s.first)) s.is c.next.ensures.steps) in
+    let all : z * length rows ≤ length a.buffer.now = rw c.record_size-size.ensures c.requires.room in
+    let r : Ranged (get_or rows n no_row) = every_at Ranged no_row rows (all_ranged 0 [] rows c.requires.well_formed) n t.in_rows in
+    rw (t.at, t.row_is) (omega (arith, l.auto.buffer, c.record_size-size.ensures, record_before z n (length rows) t.in_rows), r.hold_from, r.hold_to)
 
 pub loop-i-preserved : goal.loop-i-preserved
 loop-i-preserved c =
     let a = c.args in
     let l = c.loop-i in
+    let rows = a.rows.now in
+    let firsts = a.firsts.now in
     let z = c.record_size-size.result in
-    let h : l.i < length a.rows = search rules in
-    let k : l.i < length a.firsts = search rules in
-    let put = records_bytes a.form (take l.i a.rows) (take l.i a.firsts) in
-    let n : z * l.i ≡ 0 + length put = rw (records_length a.form (take l.i a.rows) (take l.i a.firsts), length-take-le l.i a.rows (omega arith), c.record_size-size.ensures) (omega arith) in
-    (search rules, rw (records_next a.form a.rows a.firsts l.i h k) (put_then 0 (z * l.i) put (record_bytes a.form (row_at a.rows l.i) (get_or a.firsts l.i 0)) a.buffer.now n l.invariant.1 c.put_record.ensures))
+    let n = length l.yielded in
+    let s = c.in-Some in
+    let t = turn rows firsts n s.i s.row.now s.first.now (YieldsList-turn (in_turn rows firsts (cc) (cc) (cc)) l.yielded l.i-iterator l.yielded_by _ c.next.new.self (s.i, (s.row, s.first)) s.is c.next.ensures.steps) in
+    let put = records_bytes (Some a.form) (take n rows) (take n firsts) in
+    let e : z * n ≡ 0 + length put = rw (records_length (Some a.form) (take n rows) (take n firsts), length-take-le n rows (omega (arith, t.in_rows)), c.record_size-size.ensures) (omega arith) in
+    let here = rw (t.at, t.row_is, t.first_is) at c.put_record.ensures in
+    rw (length_push l.yielded (s.i, (s.row, s.first)), records_next (Some a.form) rows firsts n t.in_rows t.in_firsts) (put_then 0 (z * n) put (record_bytes (Some a.form) (get_or rows n no_row) (get_or firsts n 0)) a.buffer.now e l.invariant here)
 
 pub returns : goal.returns
 returns c =
-    let e : c.loop-i.i ≡ c.args.count = omega (arith, c.loop-i.invariant.0, c.loop-i-test.false) in
-    rw e at c.loop-i.invariant.1
+    let a = c.args in
+    let l = c.loop-i in
+    let rows = a.rows.now in
+    let firsts = a.firsts.now in
+    let t = YieldsList-end (in_turn rows firsts (cc) (cc) (cc)) l.yielded l.i-iterator l.yielded_by _ c.next.new.self c.in-None.is c.next.ensures.steps in
+    let e : length l.yielded ≡ length rows = omega (arith, t.1, length-enumerate_from 0 (zip rows firsts), length-zip rows firsts, c.requires.paired) in
+    rw (e, take_all (length rows) rows (omega arith), take_all (length rows) firsts (omega (arith, c.requires.paired))) at l.invariant

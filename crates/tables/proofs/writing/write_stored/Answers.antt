@@ -1,44 +1,34 @@
--- `tables::writing::write_stored` meets its contract: refused, or all put. Assumes nothing.
-use mathlib.Core.Path.{◌≡◌, sym, ◌∙◌}
-use native.Mathlib.Omega.{arith}
-use lib.ListN.{length, take}
-use lib.Seq.{length-sets}
-use Rattle.rules.specs.StoredTable.{count_verdict, rows_in}
-use Rattle.rules.specs.Writing.{records_bytes, bytes_of}
-use Rattle.rules.proofs.Checks.{both_accept, few_rows}
-use Rattle.rules.proofs.Put.{put_refused, put_whole}
-use Rattle.tables.proofs.Wrote.{writable, table_size_law, records_trailer}
+-- `tables::writing::write_stored` meets its contract: where nothing is refused, all is put. Assumes nothing.
+use Rattle.std.proofs.Common.{sym, ap, unwrap_or, ◌≡◌, rules, length}
+use Rattle.std.proofs.lemmas.Result.{err_from_is_err_and}
+use Rattle.rules.specs.declared.Form.TheVariants.{One}
+use Rattle.rules.specs.Answers.{Verdict, written_outcome}
+use Rattle.rules.specs.Writing.{write_verdict, bytes_of, told_of, left_of}
+use Rattle.rules.proofs.Outcomes.{refused}
+use Rattle.tables.proofs.Wrote.{told, left}
 use Rattle.tables.proofs.writing.write_stored.Goals as goal
 
-pub returns-in_default : goal.returns-in_default
-returns-in_default c = put_refused _ _ (bytes_of c.args.stored) c.args.buffer.now c.check_writing-verdict.ensures c.in_default.is
-
-pub records_size-records-requires : goal.records_size-records-requires
-records_size-records-requires c =
-    let w = writable c.args.stored (length c.args.buffer.now) (sym c.check_writing-verdict.ensures ∙ c.in-Accepted.is) in
-    few_rows c.args.stored.table w.well_formed
-
-pub put_records-requires : goal.put_records-requires
-put_records-requires c =
-    let table = c.args.stored.table in
-    let w = writable c.args.stored (length c.args.buffer.now) (sym c.check_writing-verdict.ensures ∙ c.in-Accepted.is) in
-    (few_rows table w.well_formed, omega (arith, w.room), (both_accept (count_verdict table.count) _ w.well_formed).1)
-
-pub put_trailer-requires : goal.put_trailer-requires
-put_trailer-requires c =
-    let stored = c.args.stored in
-    let buffer = c.args.buffer.now in
-    let w = writable stored (length buffer) (sym c.check_writing-verdict.ensures ∙ c.in-Accepted.is) in
-    let e : length c.put_records.new.buffer ≡ length buffer = rw c.put_records.ensures (length-sets buffer 0 (records_bytes stored.form (rows_in stored.table) (take stored.table.count stored.firsts))) in
-    (few_rows stored.table w.well_formed, omega (arith, e, w.room, c.records_size-records.ensures.0))
-
-pub returns : goal.returns
-returns c =
+pub returns-in_err-form-clause-buffer : goal.returns-in_err-form-clause-buffer
+returns-in_err-form-clause-buffer c =
     let a = c.args in
-    let stored = a.stored in
-    let buffer = a.buffer.now in
-    let long = c.well_formed.0.1.1.1.0.1.1.1.0.1.0.1 in
-    let w = writable stored (length buffer) (sym c.check_writing-verdict.ensures ∙ c.in-Accepted.is) in
-    let put = rw c.put_records.ensures at c.put_trailer.ensures in
-    let size = table_size_law stored w.well_formed long in
-    put_whole (bytes_of stored) buffer c.check_writing-verdict.ensures c.in-Accepted.is (omega (arith, size, c.records_size-records.ensures.0)) (omega (arith, size, w.room)) (records_trailer stored w.well_formed long buffer c.records_size-records.result c.records_size-records.ensures.0 put)
+    let v = refused (write_verdict a.stored (length a.buffer.now)) (unwrap_or a.stored.form One) _ (sym c.in_err-form.ensures) in
+    sym (ap (λ (v : Verdict). left_of v (bytes_of a.stored) a.buffer.now) v)
+
+pub returns-in_err-form-clause-told : goal.returns-in_err-form-clause-told
+returns-in_err-form-clause-told c =
+    let a = c.args in
+    let p = err_from_is_err_and c.from_residual.result c.from_residual.ensures.1 in
+    let v = refused (write_verdict a.stored (length a.buffer.now)) (unwrap_or a.stored.form One) _ (sym c.in_err-form.ensures) in
+    rw (p.1, p.2) (sym (ap (λ (v : Verdict). written_outcome (told_of v (bytes_of a.stored))) v))
+
+pub returns-clause-buffer : goal.returns-clause-buffer
+returns-clause-buffer c =
+    let whole : length c.args.stored.table.rows ≡ 64 = search rules in
+    let at = c.records_size-records in
+    left c.args.stored c.args.buffer.now c.in_ok-form.form c.in_ok-form.ensures whole at.result at.ensures.size c.put_trailer.new.buffer (rw (c.put_records.ensures, c.used.ensures) at c.put_trailer.ensures)
+
+pub returns-clause-told : goal.returns-clause-told
+returns-clause-told c =
+    let whole : length c.args.stored.table.rows ≡ 64 = search rules in
+    let at = c.records_size-records in
+    told c.args.stored c.args.buffer.now c.in_ok-form.form c.in_ok-form.ensures whole at.result at.ensures.size

@@ -1,6 +1,0 @@
--- `channelfox_ranked` meets its contract. Assumes nothing.
-use mathlib.Core.Path.{◌∙◌}
-use Rattle.channelfox.proofs.channelfox_ranked.Goals as goal
-
-pub returns : goal.returns
-returns c = c.read_form.ensures ∙ rw c.ranked.ensures

@@ -1,0 +1,7 @@
+-- After each turn the rows before the place are made. Assumes nothing.
+use Rattle.channelfox.specs.Forms.{row_of}
+use Rattle.channelfox.proofs.Mapped.{Made}
+use Rattle.channelfox.proofs.forms.RunTryFromRefCRun.try_from.Given as goal
+
+abbrev pub invariant-loop-at : goal.invariant-loop-at
+invariant-loop-at l = Made row_of l.row-items l.rows l.at

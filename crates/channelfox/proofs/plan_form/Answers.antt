@@ -1,5 +1,0 @@
--- `channelfox::plan_form` meets its contract. Assumes nothing.
-use Rattle.channelfox.proofs.plan_form.Goals as goal
-
-pub returns : goal.returns
-returns c = rw c.verdict_form.ensures

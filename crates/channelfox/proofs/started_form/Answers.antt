@@ -1,5 +1,0 @@
--- `channelfox::started_form` meets its contract. Assumes nothing.
-use Rattle.channelfox.proofs.started_form.Goals as goal
-
-pub returns : goal.returns
-returns c = rw (c.run_form.ensures, c.verdict_form.ensures)

@@ -12,8 +12,8 @@
  * looked for: a NULL pointer, as any that does not go with its length, has no defined outcome.
  * Sizes, in bytes: a table 1,032, a stored table 1,296, a plan 1,544, a run 3,344; an object row 16, a planned row 24, a run row 52, a
  * part 24; the answers a verdict (16) more.
- * Stack, measured with 64 objects, arguments and answer by value included: channelfox_start_stored 33 KB, channelfox_start 32,
- * channelfox_advance 31, channelfox_slot 21, channelfox_read_value 17, the plans 14, the others under 7 (built by rattle-kit-5b).
+ * Stack, measured with 64 objects, arguments and answer by value included: channelfox_advance 33 KB, channelfox_start_stored 31,
+ * channelfox_start 30, the plans 16, channelfox_slot 13, channelfox_read_value 13, the others under 7 (built by rattle-kit-13f).
  * Padding. There are two bytes of padding behind each `id`, and padding behind `number`, `clock` and the `form` of a stored table: they
  * are not set, so two equal structs may differ under memcmp. Compare field by field.
  * Targets. The library is compiled for x86-64 Linux, for C99 and later and for C++.

@@ -17,10 +17,10 @@ pub(crate) fn row(id: u16, cost: u32, validity: u32) -> ObjectRow {
     held_row(id, cost, validity, 1)
 }
 
-// A table of these rows. Those beyond the count would be refused, if they were read.
+// A table of these rows, three at most. Those of the three beyond the count would be refused, if they were read.
 pub(crate) fn table(first: &[ObjectRow]) -> Table {
-    let unread = row(9, 0, 0);
-    let mut rows = [unread; 64];
+    let mut rows = [ObjectRow::empty(); 64];
+    rows[..3].fill(row(9, 0, 0));
     for (place, row) in rows.iter_mut().zip(first) {
         *place = *row;
     }

@@ -1,19 +1,12 @@
 // Document 01's conditions of an acceptable run state, each broken by itself.
 use crate::failed::Failed;
-use crate::planning_cases::{held_row, row, table};
+use crate::planning_cases::{held_row, table};
 use crate::run_cases::print_reading;
 use rules::{PlanRow, Run, RunRow, Stored, Unstepped};
 
-// Objects 1 (2,8) and 2 (2,10) three slots after a start at clock 100: object 1 holds its value, object 2 has one unit left.
-fn good_run() -> Result<Run, Failed> {
-    let rows = table(&[row(1, 2, 8), row(2, 2, 10)]);
-    let run = running::start(rows, 100, &[0, 0])?;
-    Ok(running::advance(run, &[0, 0, 0])?)
-}
-
-// Objects 1 (2,8) and 2 (2,10), both with a hold of 2, three slots after a start at clock 100: object 2 is in its hold.
-fn held_run() -> Result<Run, Failed> {
-    let rows = table(&[held_row(1, 2, 8, 2), held_row(2, 2, 10, 2)]);
+// Objects 1 (2,8) and 2 (2,10) with these holds, three slots after a start at clock 100.
+fn run_with(hold: u32) -> Result<Run, Failed> {
+    let rows = table(&[held_row(1, 2, 8, hold), held_row(2, 2, 10, hold)]);
     let run = running::start(rows, 100, &[0, 0])?;
     Ok(running::advance(run, &[0, 0, 0])?)
 }
@@ -184,8 +177,8 @@ fn rests(rt: &impl Print, good: Run) -> Result<(), Failed> {
 }
 
 pub(crate) fn cases(rt: &impl Print) -> Result<(), Failed> {
-    let good = good_run()?;
-    let held = held_run()?;
+    let good = run_with(1)?; // object 1 holds its value, object 2 has one unit left
+    let held = run_with(2)?; // object 2 is in its hold
     counts(rt, good)?;
     plans(rt, good)?;
     validities(rt, good)?;

@@ -82,7 +82,7 @@ fn print_totals(
     line.end(rt)
 }
 
-// The objects in priority order, in both plans.
+// The objects in priority order, in both plans. These are handed on side by side, as they stand in the table.
 fn print_plans(
     rt: &impl Print,
     ranked: &Table,
@@ -149,7 +149,7 @@ fn compare(rt: &(impl Print + Eprint), table: Table) -> Ending {
     }
 }
 
-// The answer to the bytes of a stored table.
+// The answer to the bytes of a stored table. These lines are alike in each program: one function for them would take what follows as a closure.
 fn answer(rt: &(impl Print + Eprint), bytes: &[u8]) -> Ending {
     match tables::read(bytes) {
         Ok(stored) => compare(rt, stored.table),

@@ -25,7 +25,7 @@ fn export(rt: &(impl Print + Eprint), bytes: &[u8]) -> Result<(), Refused> {
     Ok(())
 }
 
-// The answer to the bytes of a stored table.
+// The answer to the bytes of a stored table. These lines are alike in each program: one function for them would take what follows as a closure.
 fn answer(rt: &(impl Print + Eprint), bytes: &[u8]) -> Ending {
     match export(rt, bytes) {
         Ok(()) => Ending::Done,

@@ -31,7 +31,7 @@ fn plan(rt: &(impl Print + Eprint), table: Table) -> Ending {
     }
 }
 
-// The answer to the bytes of a stored table.
+// The answer to the bytes of a stored table. These lines are alike in each program: one function for them would take what follows as a closure.
 fn answer(rt: &(impl Print + Eprint), bytes: &[u8]) -> Ending {
     match tables::read(bytes) {
         Ok(stored) => plan(rt, stored.table),

@@ -14,9 +14,9 @@ pub fn ignored(written: std::io::Result<()>) {
     let _ = written;
 }
 
-// How the program ended, as its last act: 0 done, 1 refused, 2 wrong words. A program has no exit status of its own, so it writes the digit to
-// descriptor 3, which the launcher opens; where nobody did, the write fails and nothing is lost. The crate `io` writes to it, since the runtime
-// knows no descriptor but the first three.
+// How the program ended, as its last act: 0 done, 1 refused, 2 wrong words. A program has no exit status of its own, so it writes the digit
+// to descriptor 3, which the launcher opens; where nobody did, the write fails and nothing is lost. The crate `io` writes to it, since the
+// runtime knows no descriptor but the first three.
 pub fn ended(how: Ending) {
     let digit: &[u8] = match how {
         Ending::Done => b"0",

@@ -4,7 +4,7 @@ ghost use Rattle.std.specs.Prelude.{◌≤◌, length};
 // One byte more than a table or a sheet may have is enough to see that there are too many.
 const MOST: usize = 4097;
 
-// The bytes that came in, and how many they are.
+// The bytes that came in, and how many they are: of a fixed length, since a library of this repository has no heap.
 #[derive(Drop)]
 pub struct Input {
     bytes: [u8; MOST],

@@ -64,9 +64,7 @@ impl Line {
     pub fn number(&mut self, n: u64)
         ensures { self.new ≡ with_bytes self.old (decimal n) }
     {
-        let mut digits = [0u8; 20];
-        let k = io::decimal(n, &mut digits);
-        self.text(&digits[..k]);
+        self.padded(n, 0);
     }
 
     // The number at the right end of `width` columns.

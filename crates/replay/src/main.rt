@@ -81,11 +81,7 @@ fn answer<R: Print + Eprint + Env + AllocGlobal>(rt: &R) -> Result<Ending, Wrong
     let input = Input::read();
     match tables::read(input.bytes()) {
         Ok(stored) => start(rt, input.bytes(), stored, &words),
-        Err(refused) => {
-            printing::tell(rt, refused);
-            printing::explain_table(rt, input.bytes(), refused);
-            Ok(Ending::Refused)
-        }
+        Err(refused) => Ok(printing::refuse_table(rt, input.bytes(), refused)),
     }
 }
 

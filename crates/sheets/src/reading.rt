@@ -75,7 +75,8 @@ fn read_line(bytes: &[u8]) -> Option<(ObjectRow, &[u8])>
     Some((row, rest))
 }
 
-// The answer to the lines of a sheet: the first that is not of the form, or the answer to all rows. Rows beyond 64 are only counted.
+// The answer to the lines of a sheet: the first that is not of the form, or the answer to all rows. Rows beyond 64 are only counted. A loop
+// over what is left: where a line ends is known only once it is read.
 fn read_lines(bytes: &[u8]) -> Result<Table, Refused>
     ensures { result ≡ read_outcome (lines_answer (lines_of bytes.now)) }
 {

@@ -19,7 +19,7 @@ fn plan_ok(p: PlanRow) -> bool
         & rules::hold_ok(p.cost, p.hold)
 }
 
-// A held sample is younger than the validity.
+// A held sample is younger than the validity. Of a clock value, a validity and a stored value, as document 01's rule is.
 pub(crate) fn stored_ok(clock: u32, validity: u32, stored: Stored) -> bool
     ensures { result ≡ stored_ok clock validity stored }
 {
@@ -29,7 +29,8 @@ pub(crate) fn stored_ok(clock: u32, validity: u32, stored: Stored) -> bool
     }
 }
 
-// The conditions on a row in use.
+// The conditions on a row in use. A row may be handed in with any sample beside no work left: so the job in hand is three fields of it, on which
+// document 01 has conditions, and no option.
 #[tactic(auto, using(std::proofs::lemmas::Bool::Decides::nat_tests), unfolding(rules::specs::RunState::row_ok))]
 pub fn row_ok(clock: u32, row: RunRow) -> bool
     ensures { result ≡ row_ok clock row }

@@ -26,6 +26,7 @@ fn records_part(bytes: &[u8], site: bool) -> Result<Part, Refused>
 pub fn chosen_part(site: &[u8], factory: &[u8]) -> Part
     ensures { result ≡ chosen_part site.now factory.now }
 {
+    // A part too, and no option: document 01 has the empty part at the start of the factory bytes.
     let nothing = Part {
         site: false,
         form: None,

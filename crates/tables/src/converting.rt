@@ -19,7 +19,7 @@ fn other_form(form: Option<Form>) -> Option<Form>
     })
 }
 
-// Whether both are the same of the two forms.
+// Whether both are the same of the two forms; no form is the same as none.
 fn same_form(a: Option<Form>, b: Option<Form>) -> bool
     ensures { result ≡ same_form a b }
 {

@@ -1,4 +1,5 @@
-// Numbers of two and of four bytes, the low byte first: read from bytes, and put into a buffer.
+// Numbers of two and of four bytes, the low byte first: read from bytes, and put into a buffer. Two functions each way, since the library
+// has `from_le_bytes` and `to_le_bytes` for each type.
 ghost use Rattle.std.specs.Prelude.{◌≡◌, ◌+◌, ◌≤◌, length};
 ghost use Rattle.std.proofs.lemmas.List.Edits.{sets};
 ghost use Rattle.rules.specs.StoredTable.{le16, le32};

@@ -46,8 +46,8 @@ fn rows_from(bytes: &[u8], records: Records) -> [ObjectRow; ROWS]
     })
 }
 
-// The first releases of the records, and zeros after them. One function for both would be no shorter: it would take what is told here, and say
-// where that may be called.
+// The first releases of the records, and zeros after them. One function for both would take `row_at` or `first_at` and the empty value, and
+// need a clause on where the former may be called: more than the five lines that it would save.
 fn firsts_from(bytes: &[u8], records: Records) -> [u32; ROWS]
     requires { AreWithin records (length bytes.now) }
     ensures { result ≡ filled (first_at (Some records.form)) 0 bytes.now records }

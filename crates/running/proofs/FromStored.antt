@@ -1,32 +1,21 @@
 -- Starting from stored bytes: what was read is refused or well-formed, and its first releases in priority order are the part in use of the array.
 -- Assumes nothing.
-use Rattle.std.proofs.Common.{◌≡◌, ℕ, ◌≤◌, List, Ok, Err, take, refl, ◌∙◌, take_at, arith}
+use Rattle.std.proofs.Common.{◌≡◌, ℕ, ◌≤◌, List, Ok, take, refl, sym, ◌∙◌, take_at}
 use lib.ListN.{length-map}
 use Rattle.rules.specs.declared.StoredTable.{StoredTable}
-use Rattle.rules.specs.declared.Refused as at_place
-use Rattle.rules.specs.Answers.{Verdict, Accepted, Refused, stored_outcome}
-use Rattle.rules.specs.StoredTable.{padded, table_verdict, stored_of, read_verdict, read_answer, read_of}
+use Rattle.rules.specs.Answers.{Accepted, stored_outcome}
+use Rattle.rules.specs.StoredTable.{padded, table_verdict, stored_of, read_verdict, read_of}
 use Rattle.rules.specs.Order.{places_of, firsts_in_order, ranked_firsts}
 use Rattle.rules.specs.Run.{start_of, start_stored_of}
 use Rattle.rules.proofs.Checks.{few_rows}
 use Rattle.rules.proofs.Places.{places_length}
+use Rattle.tables.proofs.Filling.{read_accepted}
 use Rattle.rules.proofs.ReadBytes.{well_formed}
 
-refused_answer : (v : Verdict) (x : StoredTable) (e : at_place.Refused) → stored_outcome (read_answer v x) ≡ Err e → v ≡ Refused e.refusal e.place
-refused_answer Accepted x e h = let z : ◌≡◌ {A = ℕ} 0 1 = cc in absurd (omega arith)
-refused_answer (Refused r k) x e h = cc
-
-given_answer : (v : Verdict) (x y : StoredTable) → stored_outcome (read_answer v x) ≡ Ok y → (v ≡ Accepted) × (y ≡ x)
-given_answer Accepted x y h = (refl, cc)
-given_answer (Refused r k) x y h = let z : ◌≡◌ {A = ℕ} 0 1 = cc in absurd (omega arith)
-
 module _ (s : List ℕ) where
-  pub read_refused : (e : at_place.Refused) → stored_outcome (read_of s) ≡ Err e → read_verdict s ≡ Refused e.refusal e.place
-  read_refused e h = refused_answer (read_verdict s) (stored_of s) e h
-
   module _ (x : StoredTable) (h : stored_outcome (read_of s) ≡ Ok x) where
     given : (read_verdict s ≡ Accepted) × (x ≡ stored_of s)
-    given = given_answer (read_verdict s) (stored_of s) x h
+    given = read_accepted s x (sym h)
 
     formed : table_verdict x.table ≡ Accepted
     formed = rw given.1 (well_formed s given.0)

@@ -23,21 +23,13 @@ module _ (run : Run) (stolen : Bool) where
   all_stepped holding after rows h w n e = rw (h, n, e, one_pass run.clock holding stolen (used_rows run) w) refl
 
 -- in place: what the Result of an answer says of its run and its verdict
-pub done_run : (v : Verdict) (run next : Run) → Ok next ≡ kept_or v run → next ≡ run
-done_run Accepted run next e = cc
-done_run (Refused r k) run next e = let z : ◌≡◌ {A = ℕ} 0 1 = cc in absurd (omega arith)
+pub done_said : (v : Verdict) (run next : Run) → Ok next ≡ kept_or v run → (next ≡ run) × (Ok tt ≡ checked v)
+done_said Accepted run next e = (cc, refl)
+done_said (Refused r k) run next e = let z : ◌≡◌ {A = ℕ} 0 1 = cc in absurd (omega arith)
 
-pub done_told : (v : Verdict) (run next : Run) → Ok next ≡ kept_or v run → Ok tt ≡ checked v
-done_told Accepted run next e = refl
-done_told (Refused r k) run next e = let z : ◌≡◌ {A = ℕ} 0 1 = cc in absurd (omega arith)
-
-pub kept_run : (v : Verdict) (run : Run) (u : Unstepped) → Err u ≡ kept_or v run → u.run ≡ run
-kept_run Accepted run u e = let z : ◌≡◌ {A = ℕ} 0 1 = cc in absurd (omega arith)
-kept_run (Refused r k) run u e = cc
-
-pub kept_told : (v : Verdict) (run : Run) (u : Unstepped) → Err u ≡ kept_or v run → Err u.refused ≡ checked v
-kept_told Accepted run u e = let z : ◌≡◌ {A = ℕ} 0 1 = cc in absurd (omega arith)
-kept_told (Refused r k) run u e = cc
+pub kept_said : (v : Verdict) (run : Run) (u : Unstepped) → Err u ≡ kept_or v run → (u.run ≡ run) × (Err u.refused ≡ checked v)
+kept_said Accepted run u e = let z : ◌≡◌ {A = ℕ} 0 1 = cc in absurd (omega arith)
+kept_said (Refused r k) run u e = (cc, cc)
 
 -- ── Many slots ──
 

@@ -6,6 +6,7 @@ use Rattle.std.proofs.lemmas.List.{length-append, length-replicate, get_or-repli
 use Rattle.std.specs.Array.{IsFromFnResult, IsFromFnResultFrom}
 use Rattle.std.specs.Fn.{Called, Mut}
 use borrow.Author.Tests.{lt-ltb, le-ltb}
+use Rattle.rules.proofs.Outcomes.{given, refused}
 use Rattle.rules.specs.declared.Form.{Form}
 use Rattle.rules.specs.declared.Form.TheVariants.{One}
 use Rattle.rules.specs.declared.ObjectRow.{ObjectRow}
@@ -16,7 +17,6 @@ use Rattle.rules.specs.Refusals.{first_refusal}
 use Rattle.rules.specs.StoredTable.{no_row, padded, is_form, record_size, records_of, row_of, first_at, form_of, count_of, stored_rows, stored_firsts, checks_from, table_verdict, trailer_verdict, stored_of, read_verdict, read_answer, read_of}
 use Rattle.rules.proofs.Bytes.{records_count, records_at}
 use Rattle.rules.proofs.Checks.{count_in}
-use Rattle.rules.proofs.Outcomes.{refused}
 use Rattle.rules.proofs.Trailer.{readable}
 use Rattle.tables.specs.declared.trailer.Records.{Records}
 use Rattle.tables.specs.Records.{marked_form, records_in, AreWithin, filled}
@@ -99,11 +99,6 @@ module _ (s : List ℕ) (t : trailer_verdict s ≡ Accepted) where
 
 -- ── The answer ──
 
--- what was asked for, where nothing is refused
-pub told_ok : {A : Type 0} (v : Verdict) (x y : A) → Ok y ≡ outcome v x → (v ≡ Accepted) × (y ≡ x)
-told_ok Accepted x y e = (refl, cc)
-told_ok (Refused r k) x y e = cc
-
 answer_is : (v : Verdict) (stored : StoredTable) → stored_outcome (read_answer v stored) ≡ outcome v stored
 answer_is Accepted stored = refl
 answer_is (Refused r k) stored = refl
@@ -112,7 +107,7 @@ pub read_told : (s : List ℕ) {v : Verdict} → read_verdict s ≡ v → stored
 read_told s e = answer_is (read_verdict s) (stored_of s) ∙ ap (λ (v : Verdict). outcome v (stored_of s)) e
 
 pub read_accepted : (s : List ℕ) (stored : StoredTable) → Ok stored ≡ stored_outcome (read_of s) → (read_verdict s ≡ Accepted) × (stored ≡ stored_of s)
-read_accepted s stored e = told_ok (read_verdict s) (stored_of s) stored (e ∙ read_told s refl)
+read_accepted s stored e = given (read_verdict s) (stored_of s) stored (e ∙ read_told s refl)
 
 pub read_refused : (s : List ℕ) (e : at_place.Refused) → Err e ≡ stored_outcome (read_of s) → read_verdict s ≡ Refused e.refusal e.place
 read_refused s e h = refused (read_verdict s) (stored_of s) e (sym (h ∙ read_told s refl))
@@ -120,7 +115,7 @@ read_refused s e h = refused (read_verdict s) (stored_of s) e (sym (h ∙ read_t
 -- from the records that the trailer points at, and the arrays that they fill
 module _ (s : List ℕ) (records : Records) (e : Ok records ≡ outcome (trailer_verdict s) (records_in s)) (rows : List ObjectRow) (er : rows ≡ filled row_of no_row s records) where
   read_records : (trailer_verdict s ≡ Accepted) × (records ≡ records_in s)
-  read_records = told_ok (trailer_verdict s) (records_in s) records e
+  read_records = given (trailer_verdict s) (records_in s) records e
 
   pub read_table : table_verdict (record { count = records.count; rows = rows }) ≡ read_verdict s
   read_table = rw (er, read_records.1) (verdict_is s read_records.0)

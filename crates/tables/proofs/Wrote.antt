@@ -18,7 +18,8 @@ use Rattle.rules.specs.Writing.{records_bytes, trailer_bytes, bytes_of, unused_f
 use Rattle.rules.proofs.Checks.{few_rows, both_accept, test_passed}
 use Rattle.rules.proofs.Bytes.{records_length, table_length}
 use Rattle.rules.proofs.Put.{put_then, put_start}
-use Rattle.tables.proofs.Filling.{some_form, told_ok}
+use Rattle.rules.proofs.Outcomes.{given}
+use Rattle.tables.proofs.Filling.{some_form}
 
 -- ── Check 18 ──
 
@@ -58,13 +59,13 @@ writable stored size e =
 
 module _ (stored : StoredTable) (buffer : List ℕ) (form : Form) (passed : Ok form ≡ outcome (write_verdict stored (length buffer)) (unwrap_or stored.form One)) where
   verdict : write_verdict stored (length buffer) ≡ Accepted
-  verdict = (told_ok (write_verdict stored (length buffer)) (unwrap_or stored.form One) form passed).0
+  verdict = (given (write_verdict stored (length buffer)) (unwrap_or stored.form One) form passed).0
 
   fits : Writable stored (length buffer)
   fits = writable stored (length buffer) verdict
 
   pub form_is : stored.form ≡ Some form
-  form_is = fits.form ∙ ap Some (sym (told_ok (write_verdict stored (length buffer)) (unwrap_or stored.form One) form passed).1)
+  form_is = fits.form ∙ ap Some (sym (given (write_verdict stored (length buffer)) (unwrap_or stored.form One) form passed).1)
 
   pub few : stored.table.count ≤ 64
   few = few_rows stored.table fits.well_formed

@@ -1,15 +1,10 @@
 -- `rules::check_table` meets its contract: each row that passes goes on, and the first that does not decides. Assumes nothing.
-use Rattle.std.proofs.Common.{ℕ, ◌≡◌, Some, None, sym, ◌∙◌, arith, rules, take_all}
+use Rattle.std.proofs.Common.{sym, ◌∙◌, rules, take_all}
+use Rattle.std.proofs.lemmas.Option.{none-some, same_Some}
 use Rattle.rules.proofs.Checks.{decided, has_at, has_next, row_out, id_again, passed_next}
 use Rattle.rules.proofs.Outcomes.{accepted, refused}
 use Rattle.rules.proofs.check_table.Goals.{else-records-test, then-records-test+in_ok-check_row+then-loop-before-test+then-before-row}
 use Rattle.rules.proofs.check_table.Goals as goal
-
-some_none : {n : ℕ} → Some n ≡ None → ⊥
-some_none e = let z : ◌≡◌ {A = ℕ} 0 1 = cc in omega arith
-
-some_same : {m n : ℕ} → Some m ≡ Some n → m ≡ n
-some_same e = cc
 
 pub returns-in_err-check_row : goal.returns-in_err-check_row
 returns-in_err-check_row c =
@@ -30,11 +25,11 @@ records-preserved c =
 pub returns-in-Some : goal.returns-in-Some
 returns-in-Some c =
     elim c.records-test.branch [
-      | else-records-test w ↦ absurd (some_none (sym c.in-Some.is ∙ (w.repeated-is ∙ c.records.invariant.none_yet)))
+      | else-records-test w ↦ absurd (none-some c.in-Some.at (sym c.records.invariant.none_yet ∙ (sym w.repeated-is ∙ c.in-Some.is)))
       | then-records-test+in_ok-check_row+then-loop-before-test+then-before-row w ↦
           let v = accepted _ _ _ (sym w.check_row.ensures ∙ w.in_ok-check_row.was) in
           let has = has_at _ w.loop-before.before-index _ w.loop-before-test.true w.if-before-row.true in
           let out = id_again c.records.invariant.passed w.records-test.true v has in
-          let at = some_same (sym c.in-Some.is ∙ w.repeated-is) in
+          let at = same_Some _ _ (sym c.in-Some.is ∙ w.repeated-is) in
           rw (decided c.args.table c.if-table-lt1.false c.if-table-gt-ROWS.false (rw c.records.invariant.used at out), sym at) (search rules)
     ]

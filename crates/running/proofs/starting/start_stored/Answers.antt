@@ -1,11 +1,12 @@
 -- `running::starting::start_stored` meets its contract. Assumes nothing.
 use Rattle.std.proofs.Common.{sym, ap, ◌∙◌, rules}
 use Rattle.rules.specs.Answers.{start_outcome}
-use Rattle.running.proofs.FromStored.{read_refused, started}
+use Rattle.tables.proofs.Filling.{read_refused}
+use Rattle.running.proofs.FromStored.{started}
 use Rattle.running.proofs.starting.start_stored.Goals as goal
 
 pub returns-in_err-stored : goal.returns-in_err-stored
-returns-in_err-stored c = rw (read_refused c.args.bytes.now _ (sym c.read.ensures ∙ c.in_err-stored.was)) (search rules)
+returns-in_err-stored c = rw (read_refused c.args.bytes.now _ (sym c.in_err-stored.was ∙ c.read.ensures)) (search rules)
 
 pub returns : goal.returns
 returns c =

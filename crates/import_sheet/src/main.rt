@@ -2,16 +2,26 @@
 // standard error as "refused N at K" and why, and nothing is written.
 #![tactic(auto)]
 
-use printing::{Ending, Input};
-use rules::Refused;
+ghost use Rattle.std.specs.Prelude.{◌≡◌};
+ghost use Rattle.rules.specs.Answers.{checked};
+ghost use Rattle.rules.specs.StoredTable.{table_verdict};
 
-// Writes the table of a sheet. 64 records and the trailer are 776 bytes.
-fn import(rt: &impl Print, bytes: &[u8]) -> Result<(), Refused> {
-    let table = sheets::import(bytes)?;
+use printing::{Ending, Input, Streams};
+use rules::{Refused, Table};
+
+// Writes a table as stored bytes. 64 records and the trailer are 776 bytes, so that none is refused for want of room.
+fn write_table(rt: &impl Print, table: Table) -> Result<(), Refused>
+    ensures { result ≡ checked (table_verdict table) }
+{
     let mut stored = [0u8; 776];
     let size = tables::write(table, &mut stored)?;
     printing::ignored(rt.write_all(&stored[..size]));
     Ok(())
+}
+
+// Writes the table of a sheet.
+fn import(rt: &impl Print, bytes: &[u8]) -> Result<(), Refused> {
+    write_table(rt, sheets::import(bytes)?)
 }
 
 // The answer to the bytes of a sheet.
@@ -26,7 +36,7 @@ fn answer(rt: &(impl Print + Eprint), bytes: &[u8]) -> Ending {
     }
 }
 
-fn main(rt: HostRuntime) {
+fn main() {
     let input = Input::read();
-    printing::ended(answer(&rt, input.bytes()));
+    printing::ended(answer(&Streams, input.bytes()));
 }

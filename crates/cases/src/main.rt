@@ -8,6 +8,7 @@ mod run_cases;
 mod state_cases;
 
 use failed::Failed;
+use printing::Streams;
 
 fn cases(rt: &impl Print) -> Result<(), Failed> {
     reading::cases(rt)?;
@@ -17,9 +18,9 @@ fn cases(rt: &impl Print) -> Result<(), Failed> {
 }
 
 // A write that failed is let go, as in the other programs.
-fn main(rt: HostRuntime) {
-    match cases(&rt) {
+fn main() {
+    match cases(&Streams) {
         Ok(()) | Err(Failed::Unwritten(_)) => {}
-        Err(Failed::Refused(refused)) => printing::tell(&rt, refused),
+        Err(Failed::Refused(refused)) => printing::tell(&Streams, refused),
     }
 }

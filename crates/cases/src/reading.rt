@@ -4,10 +4,13 @@ use rules::Form;
 
 // One stored table: what it is, the answer, and how many rows came back.
 fn read_case(rt: &impl Print, title: &str, bytes: &[u8]) -> Result<(), Failed> {
-    match tables::read(bytes) {
-        Ok(stored) => println!(rt; "{title}: accepted, rows {}", stored.table.count)?,
-        Err(refused) => println!(rt; "{title}: {refused}, rows 0")?,
+    let read = tables::read(bytes);
+    print!(rt; "{title}: ")?;
+    match read {
+        Ok(_) => print!(rt; "accepted")?,
+        Err(refused) => print!(rt; "{refused}")?,
     }
+    println!(rt; ", rows {}", read.map_or(0, |stored| stored.table.count))?;
     Ok(())
 }
 

@@ -100,10 +100,12 @@ fn held(rt: &impl Print) -> Result<(), Failed> {
 
 // One start: "accepted" or the refusal, and the count of what came back.
 fn print_start(rt: &impl Print, title: &str, started: Result<Run, Refused>) -> Result<(), Failed> {
+    print!(rt; "{title}: ")?;
     match started {
-        Ok(run) => println!(rt; "{title}: accepted, objects {}", run.count)?,
-        Err(refused) => println!(rt; "{title}: {refused}, objects 0")?,
+        Ok(_) => print!(rt; "accepted")?,
+        Err(refused) => print!(rt; "{refused}")?,
     }
+    println!(rt; ", objects {}", started.map_or(0, |run| run.count))?;
     Ok(())
 }
 

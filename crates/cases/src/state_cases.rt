@@ -56,12 +56,18 @@ fn with_stored(good: Run, stored: Stored) -> Run {
 
 // What a step and a reading say of the state.
 fn state_case(rt: &impl Print, title: &str, run: Run) -> Result<(), Failed> {
-    match running::slot(run, false) {
-        Ok(after) => print!(rt; "{title}: accepted, clock {}, reading ", after.clock)?,
-        Err(Unstepped { refused, run: kept }) => {
-            print!(rt; "{title}: {refused}, clock {}, reading ", kept.clock)?
+    print!(rt; "{title}: ")?;
+    let clock = match running::slot(run, false) {
+        Ok(after) => {
+            print!(rt; "accepted")?;
+            after.clock
         }
-    }
+        Err(Unstepped { refused, run: kept }) => {
+            print!(rt; "{refused}")?;
+            kept.clock
+        }
+    };
+    print!(rt; ", clock {clock}, reading ")?;
     print_reading(rt, run, 1)
 }
 

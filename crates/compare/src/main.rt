@@ -2,7 +2,7 @@
 // side with each object's share of the core, or which of the two refuses and where; why ours does, on standard error.
 #![tactic(auto)]
 
-use printing::{Ending, Input, Line};
+use printing::{Ending, Input, Line, Streams};
 use rules::{ObjectRow, Plan, PlanRow, Refused, Table};
 
 // An object's share of the core in hundredths of a per cent, rounded up.
@@ -89,9 +89,9 @@ fn print_plans(
     classic: Option<&Plan>,
     ours: Option<&Plan>,
 ) -> std::io::Result<()> {
-    println!(rt; "                                    Half-Half                    More-Less")?;
-    println!(rt;
-        "    id     cost validity  deadline   period     share  deadline   period     share"
+    print!(rt; "                                    Half-Half                    More-Less\n")?;
+    print!(rt;
+        "    id     cost validity  deadline   period     share  deadline   period     share\n"
     )?;
     for (at, object) in ranked.used().iter().enumerate() {
         let half = classic.and_then(|plan| plan.used().get(at));
@@ -157,7 +157,7 @@ fn answer(rt: &(impl Print + Eprint), bytes: &[u8]) -> Ending {
     }
 }
 
-fn main(rt: HostRuntime) {
+fn main() {
     let input = Input::read();
-    printing::ended(answer(&rt, input.bytes()));
+    printing::ended(answer(&Streams, input.bytes()));
 }

@@ -2,7 +2,7 @@
 // went stands on standard error, and so does a refusal, as "refused N at K" and why; then nothing is written.
 #![tactic(auto)]
 
-use printing::{Ending, Input};
+use printing::{Ending, Input, Streams};
 use rules::{Form, Refused};
 
 // Which way it went.
@@ -32,7 +32,7 @@ fn answer(rt: &(impl Print + Eprint), bytes: &[u8]) -> Ending {
     }
 }
 
-fn main(rt: HostRuntime) {
+fn main() {
     let input = Input::read();
-    printing::ended(answer(&rt, input.bytes()));
+    printing::ended(answer(&Streams, input.bytes()));
 }

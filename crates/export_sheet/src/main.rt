@@ -2,7 +2,7 @@
 // standard error as "refused N at K" and why, and nothing is written.
 #![tactic(auto)]
 
-use printing::{Ending, Input};
+use printing::{Ending, Input, Streams};
 use rules::{Form, Refused};
 
 // A sheet has no column for first releases. Whoever exports a table that has them is told, so that they are not lost unseen.
@@ -33,7 +33,7 @@ fn answer(rt: &(impl Print + Eprint), bytes: &[u8]) -> Ending {
     }
 }
 
-fn main(rt: HostRuntime) {
+fn main() {
     let input = Input::read();
-    printing::ended(answer(&rt, input.bytes()));
+    printing::ended(answer(&Streams, input.bytes()));
 }

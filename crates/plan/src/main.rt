@@ -1,7 +1,7 @@
 // The plan program: reads a stored table from standard input and prints its plan, or "refused N at K" and, on standard error, why.
 #![tactic(auto)]
 
-use printing::{Ending, Input};
+use printing::{Ending, Input, Streams};
 use rules::{Plan, Table};
 
 // "objects n", then a line for each object in priority order: id, cost, validity, deadline, period.
@@ -39,7 +39,7 @@ fn answer(rt: &(impl Print + Eprint), bytes: &[u8]) -> Ending {
     }
 }
 
-fn main(rt: HostRuntime) {
+fn main() {
     let input = Input::read();
-    printing::ended(answer(&rt, input.bytes()));
+    printing::ended(answer(&Streams, input.bytes()));
 }

@@ -8,8 +8,8 @@ pub enum Ending {
     WrongWords,
 }
 
-// The programs say nothing of a write that failed: they go on, and end as they would have. This is the only place where such an error is
-// let go.
+// The programs say nothing of a write that failed: they go on, and end as they would have. `Streams` tells of none and tries what comes next; this
+// is where the Result that a text is printed with is let go.
 pub fn ignored(written: std::io::Result<()>) {
     let _ = written;
 }

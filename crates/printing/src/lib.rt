@@ -7,6 +7,7 @@ mod input;
 mod line;
 mod refusals;
 mod shortfall;
+mod streams;
 
 pub use ending::{Ending, ended, ignored};
 pub use input::Input;
@@ -15,3 +16,4 @@ pub use refusals::{
     complain, explain_plan, explain_sheet, explain_start, explain_table, refuse_file, refuse_table,
     tell,
 };
+pub use streams::Streams;

@@ -1,4 +1,7 @@
 // A refusal in words, on standard error: what is wrong, where, and what to do. Records, lines and places count from 1 here, as people count.
+ghost use Rattle.std.specs.Prelude.{◌≡◌};
+ghost use Rattle.printing.specs.declared.ending.Ending.TheVariants as ending;
+
 use crate::ending::{Ending, ignored};
 use crate::shortfall::plan_reason;
 use diagnosis::{Cause, Row, Source};
@@ -25,14 +28,18 @@ pub fn explain_sheet(rt: &impl Eprint, bytes: &[u8], refused: Refused) {
 }
 
 // A stored table that was refused, of a program that prints: "refused N at K" on standard output, and in words.
-pub fn refuse_table(rt: &(impl Print + Eprint), bytes: &[u8], refused: Refused) -> Ending {
+pub fn refuse_table(rt: &(impl Print + Eprint), bytes: &[u8], refused: Refused) -> Ending
+    ensures { result ≡ ending.Refused }
+{
     tell(rt, refused);
     explain_table(rt, bytes, refused);
     Ending::Refused
 }
 
 // The same of a program whose output is a file, which nothing is written to then.
-pub fn refuse_file(rt: &impl Eprint, bytes: &[u8], refused: Refused) -> Ending {
+pub fn refuse_file(rt: &impl Eprint, bytes: &[u8], refused: Refused) -> Ending
+    ensures { result ≡ ending.Refused }
+{
     complain(rt, refused);
     explain_table(rt, bytes, refused);
     Ending::Refused

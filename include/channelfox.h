@@ -1,7 +1,8 @@
 /* Channelfox for C: stored tables, plans and runs, by the rules of document 01.
  *
- * Link with libchannelfox.a (`rt lib` in crates/channelfox). Bytes, rows, numbers and run states may be good or bad: what is bad is
- * refused with a number and a place, and nothing more is asked than what stands here.
+ * Link with libchannelfox.a (`rt lib` in crates/channelfox); of a C library it needs memcpy and memset and nothing else. Bytes, rows,
+ * numbers and run states may be good or bad: what is bad is refused with a number and a place, and nothing more is asked than what
+ * stands here.
  *
  * Memory. Nothing is allocated and nothing is kept between calls. What is lent for reading (`const`) is never changed; a buffer or a run
  * that is lent for writing is changed as its function says, and nothing beside it. The parts lent to one call must not overlap where one

@@ -1,7 +1,7 @@
 // Answers in their C form: 0 at 0 beside what was asked for, or the refusal beside what stands for nothing: an empty table, plan or run,
 // no form, 0 bytes, no value and no age. One generic function for them would be no plainer: its callers would hand in the struct to build
 // and what stands for nothing as closures.
-ghost use Rattle.std.specs.Prelude.{◌≡◌};
+ghost use Rattle.std.specs.Prelude.{◌≡◌, Ok, Err};
 ghost use Rattle.channelfox.specs.Answered.{value_form, verdict_answered, read_answered, stored_answered, written_answered, plan_answered, run_answered, step_answered, reading_answered};
 ghost use Rattle.channelfox.specs.Forms.{part_form};
 
@@ -40,22 +40,28 @@ impl From<Result<Table, Refused>> for CReadAnswer {
     }
 }
 
-impl From<Result<StoredTable, Refused>> for CStoredAnswer {
-    ghost from_gives = { λ answer form. form ≡ stored_answered answer };
+// The two cases of a read, each by itself: `channelfox_read` returns each on its own.
+impl From<StoredTable> for CStoredAnswer {
+    ghost from_gives = { λ stored form. form ≡ stored_answered (Ok stored) };
 
-    fn from(answer: Result<StoredTable, Refused>) -> CStoredAnswer {
-        match answer {
-            Ok(stored) => CStoredAnswer {
-                verdict: CVerdict::ACCEPTED,
-                stored: CStored::from(stored),
-            },
-            Err(refused) => CStoredAnswer {
-                verdict: CVerdict::from(refused),
-                stored: CStored {
-                    form: 0,
-                    table: Table::empty(),
-                    firsts: [0; ROWS],
-                },
+    fn from(stored: StoredTable) -> CStoredAnswer {
+        CStoredAnswer {
+            verdict: CVerdict::ACCEPTED,
+            stored: CStored::from(stored),
+        }
+    }
+}
+
+impl From<Refused> for CStoredAnswer {
+    ghost from_gives = { λ refused form. form ≡ stored_answered (Err refused) };
+
+    fn from(refused: Refused) -> CStoredAnswer {
+        CStoredAnswer {
+            verdict: CVerdict::from(refused),
+            stored: CStored {
+                form: 0,
+                table: Table::empty(),
+                firsts: [0; ROWS],
             },
         }
     }

@@ -137,7 +137,12 @@ pub struct CPart {
 pub extern "C" fn channelfox_read(bytes: &[u8]) -> CStoredAnswer
     ensures { result ≡ stored_form (read_of bytes.now) }
 {
-    CStoredAnswer::from(tables::read(bytes))
+    // Two returns: one value for both would be made beside the answer, and its 1,312 bytes copied there.
+    let stored = match tables::read(bytes) {
+        Ok(stored) => stored,
+        Err(refused) => return CStoredAnswer::from(refused),
+    };
+    CStoredAnswer::from(stored)
 }
 
 #[unsafe(no_mangle)]

@@ -1,11 +1,8 @@
 -- Records one after the other: where they lie, the arrays that they fill, the checks on them, and the answer. Assumes nothing.
-use Rattle.std.proofs.Common.{◌≡◌, refl, sym, ap, ◌∙◌, subst, ℕ, zero, suc, ◌+◌, ◌-◌, ◌*◌, ◌≤◌, ◌<◌, inl, inr, add-one, arith, true, cond, ltb, List, [], length, get_or, replicate, Option, Some, None, unwrap_or, Ok, Err}
+use Rattle.std.proofs.Common.{◌≡◌, refl, sym, ap, ◌∙◌, ℕ, ◌+◌, ◌-◌, ◌*◌, ◌≤◌, ◌<◌, add-one, arith, true, List, [], ◌++◌, length, set, take, drop, replicate, Option, Some, None, unwrap_or, Ok, Err}
 use Rattle.std.proofs.Math.Nat.{mul-suc, mul-le-mul_left}
-use Rattle.std.proofs.lemmas.Bool.{cases_lt, true≢false}
-use Rattle.std.proofs.lemmas.List.{length-append, length-replicate, get_or-replicate, get_or_append_left, get_or-append_right, take_at, same_lists}
-use Rattle.std.specs.Array.{IsFromFnResult, IsFromFnResultFrom}
-use Rattle.std.specs.Fn.{Called, Mut}
-use borrow.Author.Tests.{lt-ltb, le-ltb}
+use Rattle.std.proofs.lemmas.Bool.{true≢false}
+use Rattle.std.proofs.lemmas.List.{take_at, length-append, length-replicate, take-replicate, drop-replicate, append-nil}
 use Rattle.rules.proofs.Outcomes.{given, refused}
 use Rattle.rules.specs.declared.Form.{Form}
 use Rattle.rules.specs.declared.Form.TheVariants.{One}
@@ -15,8 +12,9 @@ use Rattle.rules.specs.declared.StoredTable.{StoredTable}
 use Rattle.rules.specs.Answers.{Verdict, Accepted, Refused, outcome, stored_outcome}
 use Rattle.rules.specs.Refusals.{first_refusal}
 use Rattle.rules.specs.StoredTable.{no_row, padded, is_form, record_size, records_of, row_of, first_at, form_of, count_of, stored_rows, stored_firsts, checks_from, table_verdict, trailer_verdict, stored_of, read_verdict, read_answer, read_of}
-use Rattle.rules.proofs.Bytes.{records_count, records_at}
+use Rattle.rules.proofs.Bytes.{records_count}
 use Rattle.rules.proofs.Checks.{count_in}
+use Rattle.rules.proofs.Lists.{fill_one}
 use Rattle.rules.proofs.Trailer.{readable}
 use Rattle.tables.specs.declared.trailer.Records.{Records}
 use Rattle.tables.specs.Records.{marked_form, records_in, AreWithin, filled}
@@ -25,43 +23,34 @@ use Rattle.tables.specs.Records.{marked_form, records_in, AreWithin, filled}
 pub record_before : (size i n : ℕ) → i < n → size * i + size ≤ size * n
 record_before size i n h = let e : size * (i + 1) ≤ size * n = mul-le-mul_left size (omega arith) in omega (arith, rw (add-one i, mul-suc size i) at e)
 
--- what `array::from_fn` puts at a place
-module _ {F A : Type 0} (g : Mut F (ℕ × Unit {0}) A) (h : F) (ys : List A) (v : ℕ → A) (step : (i : ℕ) (y : A) (q : F) → Called g h (i, tt) y q → (q ≡ h) × (y ≡ v i)) where
-  made_from : (n i k : ℕ) (d : A) → i ≤ k → k < i + n → IsFromFnResultFrom g h ys i n → get_or ys k d ≡ v k
-  made_from zero i k d l b m = absurd (omega arith)
-  made_from (suc n) i k d l b m =
-      let now = step i m.1 m.0 m.3 in
-      elim (cases_lt i k) [
-        | inl later ↦ made_from n (i + 1) k d (omega arith) (omega arith) (subst (λ (q : F). IsFromFnResultFrom g q ys (i + 1) n) now.0 m.4)
-        | inr here ↦ let e : i ≡ k = omega arith in rw (← e) (m.2.1 d ∙ now.1)
-      ]
-
--- an array of 64 with the records' values, and z from their count on
+-- as many places as there are records, with a thing of each of the first n, and z after them
 module _ {A : Type 0} (f : List ℕ → ℕ → A) (z : A) (s : List ℕ) (records : Records) where
-  abbrev value : ℕ → A
-  value i = f s (records.start + record_size (Some records.form) * i)
+  abbrev front : ℕ → List A
+  front n = records_of f (record_size (Some records.form)) s records.start n
 
-  abbrev values : List A
-  values = records_of f (record_size (Some records.form)) s records.start records.count
+  abbrev pub filling : ℕ → List A
+  filling n = front n ++ replicate (records.count - n) z
 
-  many : length values ≡ records.count
-  many = records_count f (record_size (Some records.form)) s records.start records.count
+  pub fill_start : records.count ≤ 64 → take records.count (replicate 64 z) ≡ filling 0
+  fill_start few = let none : records.count - 0 ≡ records.count = omega arith in rw none (take-replicate records.count 64 z few)
 
-  filled_at : (i : ℕ) (d : A) → i < 64 → get_or (filled f z s records) i d ≡ cond (ltb i records.count) (value i) z
-  filled_at i d h =
-      elim (cases_lt i records.count) [
-        | inl l ↦ rw (lt-ltb i records.count l) (get_or_append_left values (replicate (64 - records.count) z) d i (omega (arith, many)) ∙ records_at f (record_size (Some records.form)) s records.start records.count i d l)
-        | inr l ↦ rw (le-ltb i records.count l) (get_or-append_right values (replicate (64 - records.count) z) records.count i d many l ∙ get_or-replicate (64 - records.count) (i - records.count) z d (omega arith))
-      ]
+  many : (n : ℕ) → length (front n) ≡ n
+  many n = records_count f (record_size (Some records.form)) s records.start n
 
-  -- each from a call of a closure that leaves what it holds as it is
-  pub filled_by : {F : Type 0} (g : Mut F (ℕ × Unit {0}) A) (h : F) (ys : List A) → records.count ≤ 64 → IsFromFnResult g h ys 64
-      → ((i : ℕ) (y : A) (q : F) → Called g h (i, tt) y q → (q ≡ h) × (y ≡ cond (ltb i records.count) (value i) z)) → ys ≡ filled f z s records
-  filled_by g h ys few made step =
-      let l : length (filled f z s records) ≡ 64 = simp (length-append, length-replicate) (omega (arith, many)) in
-      same_lists ys (filled f z s records) (made.long ∙ sym l) (λ i d k.
-      let b : i < 64 = omega (arith, made.long) in
-      made_from g h ys (λ i. cond (ltb i records.count) (value i) z) step 64 0 i d (omega arith) b made.each ∙ sym (filled_at i d b))
+  -- so many places, as long as no record beyond the last is put
+  pub fill_long : (n : ℕ) {ys : List A} → ys ≡ filling n → length ys ≡ n + (records.count - n)
+  fill_long n e = rw e (simp (length-append, length-replicate, many n))
+
+  pub fill_next : (n : ℕ) → n < records.count → set (filling n) n (f s (records.start + record_size (Some records.form) * n)) ≡ filling (n + 1)
+  fill_next n h =
+      let v = f s (records.start + record_size (Some records.form) * n) in
+      rw (add-one n) (rw (add-one n) at (fill_one z (front n) records.count n v (sym (many n)) h))
+
+  -- all of them, in an array of 64
+  pub fill_end : (n : ℕ) → n ≡ records.count → filling n ++ drop records.count (replicate 64 z) ≡ filled f z s records
+  fill_end n e =
+      let none : records.count - records.count ≡ 0 = omega arith in
+      rw (e, none, append-nil (front records.count), drop-replicate records.count 64 z) refl
 
 -- ── The trailer that passes ──
 

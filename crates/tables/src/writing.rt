@@ -1,7 +1,7 @@
 // Writing a table in either form: n records and the trailer, without gap, into a lent buffer. Nothing beyond what is told is touched.
 // Each function takes the buffer and a place: the contracts say which bytes stand there, and the place follows from the record's number,
 // so that a writer that keeps its own place would say the same in more words.
-ghost use Rattle.std.specs.Prelude.{◌≡◌, [], ◌+◌, ◌*◌, ◌≤◌, length, Some, unwrap_or, position, not, ◌==◌};
+ghost use Rattle.std.specs.Prelude.{◌≡◌, [], ◌+◌, ◌*◌, ◌≤◌, length, Some, Ok, unwrap_or, position, not, ◌==◌};
 ghost use Rattle.std.proofs.lemmas.List.Edits.{sets};
 ghost use Rattle.rules.specs.Answers.{checked, outcome, written_outcome, Accepted};
 ghost use Rattle.rules.specs.declared.Form.TheVariants.{One};
@@ -88,32 +88,43 @@ fn check_unused(form: Form, firsts: &[u32]) -> Result<(), Refused>
 }
 
 // Whether a buffer of `size` bytes can take it, and the form: 3 where it is of neither form, 4, 7, 6, 8, 9, then 18, then 16.
-fn check_writing(stored: &StoredTable, size: usize) -> Result<Form, Refused>
-    ensures { result ≡ outcome (write_verdict stored.now size) (unwrap_or stored.now.form One) }
+fn check_writing(stored: StoredTable, size: usize) -> Result<Form, Refused>
+    ensures { result ≡ outcome (write_verdict stored size) (unwrap_or stored.form One) }
 {
     let Some(form) = stored.form else {
         return Err(Refusal::WrongMark.at(0));
     };
     rules::check_table(stored.table)?;
     let count = stored.table.count;
-    check_unused(form, &stored.firsts[..count])?;
+    let firsts = stored.firsts;
+    check_unused(form, &firsts[..count])?;
     if size < TRAILER + records_size(form, count) {
         return Err(Refusal::BufferSmall.at(0));
     }
     Ok(form)
 }
 
-// The table in its form at the start of the buffer: how many bytes it takes, or the refusal, and the buffer is untouched.
-pub fn write_stored(stored: StoredTable, buffer: &mut [u8]) -> Result<usize, Refused>
+// The table that passed the checks, in its form at the start of the buffer: how many bytes it takes.
+fn put_stored(buffer: &mut [u8], form: Form, stored: StoredTable) -> usize
+    requires passed { Ok form ≡ outcome (write_verdict stored (length buffer.old)) (unwrap_or stored.form One) }
     ensures buffer { buffer.new ≡ buffer_after stored buffer.old }
-    ensures told { result ≡ written_outcome (written_of stored (length buffer.old)) }
+    ensures told { Ok result ≡ written_outcome (written_of stored (length buffer.old)) }
 {
-    let form = check_writing(&stored, buffer.len())?;
     let count = stored.table.count;
     let records = records_size(form, count);
     put_records(buffer, form, stored.table.used(), &stored.firsts[..count]);
     put_trailer(buffer, form, records, count);
-    Ok(TRAILER + records)
+    TRAILER + records
+}
+
+// The table in its form at the start of the buffer: how many bytes it takes, or the refusal, and the buffer is untouched.
+// The checks and the writing each take it by value: lent to both, it would lie on the stack a second time while the rows are checked.
+pub fn write_stored(stored: StoredTable, buffer: &mut [u8]) -> Result<usize, Refused>
+    ensures buffer { buffer.new ≡ buffer_after stored buffer.old }
+    ensures told { result ≡ written_outcome (written_of stored (length buffer.old)) }
+{
+    let form = check_writing(stored, buffer.len())?;
+    Ok(put_stored(buffer, form, stored))
 }
 
 // A table without first releases: in form one.
@@ -121,10 +132,12 @@ pub fn write(table: Table, buffer: &mut [u8]) -> Result<usize, Refused>
     ensures buffer { buffer.new ≡ buffer_after (form_one table) buffer.old }
     ensures told { result ≡ written_outcome (written_of (form_one table) (length buffer.old)) }
 {
+    // Made beside it: within it, all of it would be filled with zeros first.
+    let firsts = [0; ROWS];
     let stored = StoredTable {
         form: Some(Form::One),
         table,
-        firsts: [0; ROWS],
+        firsts,
     };
     write_stored(stored, buffer)
 }

@@ -1,11 +1,10 @@
 -- `tables::writing::write_stored` meets its contract: where nothing is refused, all is put. Assumes nothing.
-use Rattle.std.proofs.Common.{sym, ap, unwrap_or, ◌≡◌, rules, length}
+use Rattle.std.proofs.Common.{sym, ap, unwrap_or, length}
 use Rattle.std.proofs.lemmas.Result.{err_from_is_err_and}
 use Rattle.rules.specs.declared.Form.TheVariants.{One}
 use Rattle.rules.specs.Answers.{Verdict, written_outcome}
 use Rattle.rules.specs.Writing.{write_verdict, bytes_of, told_of, left_of}
 use Rattle.rules.proofs.Outcomes.{refused}
-use Rattle.tables.proofs.Wrote.{told, left}
 use Rattle.tables.proofs.writing.write_stored.Goals as goal
 
 pub returns-in_err-form-clause-buffer : goal.returns-in_err-form-clause-buffer
@@ -20,15 +19,3 @@ returns-in_err-form-clause-told c =
     let p = err_from_is_err_and c.from_residual.result c.from_residual.ensures.1 in
     let v = refused (write_verdict a.stored (length a.buffer.now)) (unwrap_or a.stored.form One) _ (sym c.in_err-form.ensures) in
     rw (p.1, p.2) (sym (ap (λ (v : Verdict). written_outcome (told_of v (bytes_of a.stored))) v))
-
-pub returns-clause-buffer : goal.returns-clause-buffer
-returns-clause-buffer c =
-    let whole : length c.args.stored.table.rows ≡ 64 = search rules in
-    let at = c.records_size-records in
-    left c.args.stored c.args.buffer.now c.in_ok-form.form c.in_ok-form.ensures whole at.result at.ensures.size c.put_trailer.new.buffer (rw (c.put_records.ensures, c.used.ensures) at c.put_trailer.ensures)
-
-pub returns-clause-told : goal.returns-clause-told
-returns-clause-told c =
-    let whole : length c.args.stored.table.rows ≡ 64 = search rules in
-    let at = c.records_size-records in
-    told c.args.stored c.args.buffer.now c.in_ok-form.form c.in_ok-form.ensures whole at.result at.ensures.size

@@ -19,6 +19,17 @@ pub(crate) struct Ahead {
 }
 
 impl Ahead {
+    // An object with a period and the cost of a job, 0 where it brings none, and so far with nothing known behind it.
+    pub(crate) fn of(period: u32, cost: u32) -> Ahead
+        ensures { result ≡ record { pace = pace_of period; cost = cost; calm = period } }
+    {
+        Ahead {
+            pace: pace_of(period),
+            cost,
+            calm: period,
+        }
+    }
+
     // The cost of a job.
     pub(crate) fn job(&self) -> u64
         ensures value { result ≡ self.now.cost }
@@ -33,11 +44,7 @@ impl From<PlanRow> for Ahead {
     ghost from_gives = { λ row one. one ≡ ahead_of row };
 
     fn from(row: PlanRow) -> Ahead {
-        Ahead {
-            pace: pace_of(row.period),
-            cost: if row.period < 1 { 0 } else { row.cost },
-            calm: row.period,
-        }
+        Ahead::of(row.period, if row.period < 1 { 0 } else { row.cost })
     }
 }
 

@@ -1,29 +1,47 @@
 -- The C form of the Result of an answer is that of the answer, since what a refusal hands back is always the same. Assumes nothing.
-use Rattle.std.specs.Prelude.{ℕ, ◌≡◌, refl, Bool, true, false, cond, List, [], ◌∷◌, ◌++◌, length, Option, Ok, Err}
+use Rattle.std.specs.Prelude.{ℕ, ◌≡◌, refl, Bool, true, false, cond, List, [], ◌∷◌, ◌++◌, leb, length, Option, Ok, Err}
 use Rattle.std.proofs.Common.{arith}
 use Rattle.std.proofs.Math.Option as found
 use Rattle.std.proofs.Math.Option.{none, some}
 use Rattle.rules.specs.declared.Form.{Form}
 use Rattle.rules.specs.declared.ObjectRow.{ObjectRow}
 use Rattle.rules.specs.declared.PlanRow.{PlanRow}
-use Rattle.rules.specs.declared.Refusal.TheVariants.{NoDeadline, NotRunState}
+use Rattle.rules.specs.declared.Refusal.TheVariants.{NoDeadline, NotRunState, TooLong}
 use Rattle.rules.specs.declared.Refused as at_place
 use Rattle.rules.specs.declared.Run.{Run}
 use Rattle.rules.specs.declared.StoredTable.{StoredTable}
 use Rattle.rules.specs.declared.Table.{Table}
-use Rattle.rules.specs.Answers.{checked, refused_at, Verdict, Accepted, Refused, Planned, ReadStored, Stepped, written_outcome, plan_outcome, step_outcome, reading_outcome}
+use Rattle.rules.specs.Answers.{checked, refused_at, Verdict, Accepted, Refused, Planned, ReadStored, Stepped, read_outcome, written_outcome, plan_outcome, step_outcome, reading_outcome}
 use Rattle.rules.specs.Readings.{Reading}
 use Rattle.rules.specs.Readings as reading
-use Rattle.rules.specs.StoredTable.{table_verdict}
+use Rattle.rules.specs.StoredTable.{most_bytes, refused_read, table_verdict, answer}
+use Rattle.rules.specs.Sheet.{Lines, all_rows, bad_line, lines_of, lines_answer, import_of}
 use Rattle.rules.specs.Writing.{told_of, bytes_of, write_verdict, written_of}
 use Rattle.rules.specs.Converting.{converted_from, convert_verdict, converted_of}
 use Rattle.rules.specs.Order.{in_order}
 use Rattle.rules.specs.Deadlines.{plan_by, where_found, smallest_within, own_of, refused_plan, on_accepted, plan_of}
 use Rattle.rules.specs.HalfHalf.{classic_of}
 use Rattle.rules.specs.Run.{stepped_of, advanced_of, reading_of}
-use Rattle.channelfox.specs.Forms.{verdict_form, run_form, written_form, plan_form, planned_stored, stepped_form, slot_form, advance_form, reading_form, read_value_form, run_of, all_forms}
+use Rattle.channelfox.specs.Forms.{verdict_form, read_form, run_form, written_form, plan_form, planned_stored, stepped_form, slot_form, advance_form, reading_form, read_value_form, run_of, all_forms}
 use Rattle.channelfox.specs.declared.CRun.{CRun}
-use Rattle.channelfox.specs.Answered.{refused_form, verdict_answered, run_taken, value_taken, written_answered, plan_answered, step_answered, reading_answered}
+use Rattle.channelfox.specs.Answered.{refused_form, verdict_answered, run_taken, value_taken, read_answered, written_answered, plan_answered, step_answered, reading_answered}
+
+-- ── Tables ──
+
+read_same : (v : Verdict) (table : Table) → read_answered (read_outcome (answer v table)) ≡ read_form (answer v table)
+read_same Accepted table = refl
+read_same (Refused r k) table = refl
+
+lines_same : (lines : Lines) → read_answered (read_outcome (lines_answer lines)) ≡ read_form (lines_answer lines)
+lines_same (all_rows rows) = read_same _ _
+lines_same (bad_line k) = refl
+
+pub import_same : (s : List ℕ) → read_answered (read_outcome (import_of s)) ≡ read_form (import_of s)
+import_same s = by_size (leb (length s) most_bytes)
+  where
+    by_size : (b : Bool) → read_answered (read_outcome (cond b (lines_answer (lines_of s)) (refused_read TooLong 0))) ≡ read_form (cond b (lines_answer (lines_of s)) (refused_read TooLong 0))
+    by_size true = lines_same (lines_of s)
+    by_size false = refl
 
 -- ── Bytes ──
 

@@ -180,11 +180,24 @@ pub extern "C" fn channelfox_convert(bytes: &[u8], from: u32, buffer: &mut [u8])
     CWritten::from(tables::convert(bytes, form_numbered(from), buffer))
 }
 
+// The answer takes its C form here: `CReadAnswer::from` would clear and copy a table once more.
 #[unsafe(no_mangle)]
 pub extern "C" fn channelfox_import(bytes: &[u8]) -> CReadAnswer
     ensures { result ≡ read_form (import_of bytes.now) }
 {
-    CReadAnswer::from(sheets::import(bytes))
+    let table = match sheets::import(bytes) {
+        Ok(table) => table,
+        Err(refused) => {
+            return CReadAnswer {
+                verdict: CVerdict::from(refused),
+                table: Table::empty(),
+            };
+        }
+    };
+    CReadAnswer {
+        verdict: CVerdict::ACCEPTED,
+        table,
+    }
 }
 
 #[unsafe(no_mangle)]

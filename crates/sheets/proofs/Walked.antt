@@ -9,12 +9,15 @@ use lib.ListN.{length, take, set, replicate, length-append}
 use lib.Seq.{take_all, take-append-le, take_at}
 use Rattle.std.proofs.lemmas.List.{nil_from_length}
 use Rattle.rules.specs.declared.ObjectRow.{ObjectRow}
+use Rattle.rules.specs.declared.Table.{Table}
 use Rattle.rules.specs.declared.Refusal.TheVariants.{LineForm}
-use Rattle.rules.specs.StoredTable.{no_row, padded, answer, refused_read, table_verdict, door_of}
+use Rattle.rules.specs.Answers.{Verdict, Accepted, Refused, checked, read_outcome}
+use Rattle.rules.specs.StoredTable.{no_row, no_table, padded, answer, refused_read, table_verdict, door_of}
 use Rattle.rules.specs.Sheet.{all_rows, line_bytes, read_line, line_on, lines_from, lines_of, lines_answer}
 use Rattle.rules.proofs.Checks.{count_many}
 use Rattle.rules.proofs.Lists.{fill_one}
 use Rattle.rules.proofs.SheetLines.{a_line, no_line, line_back}
+use Rattle.sheets.specs.Found.{put_into}
 
 -- ── The rows that are kept ──
 
@@ -43,6 +46,11 @@ kept_door seen count counted =
       | no h ↦ rw (counted, count_many (length seen) (omega arith)) refl
     ]
 
+-- what is answered of a lent table that was checked
+pub put_checked : (v : Verdict) (table : Table) → put_into table (checked v) ≡ read_outcome (answer v table)
+put_checked Accepted table = refl
+put_checked (Refused r k) table = refl
+
 -- ── The walk ──
 
 -- a line that was read is no empty one
@@ -62,7 +70,7 @@ pub record Walked (s : List ℕ) (rows : List ObjectRow) (count : ℕ) (rest : L
   pub fewer : count + length rest ≤ length s
   pub state : lines_of s ≡ lines_from left seen rest
 
-pub walked_none : (s : List ℕ) → Walked s (replicate 64 no_row) 0 s
+pub walked_none : (s : List ℕ) → Walked s no_table.rows 0 s
 walked_none s = record { seen = []; left = length s; counted = refl; rows_are = refl; enough = omega arith; fewer = omega arith; state = refl }
 
 module _ {s : List ℕ} {rows : List ObjectRow} {count : ℕ} {rest : List ℕ} (w : Walked s rows count rest) where

@@ -1,8 +1,9 @@
 // Importing a sheet: field by field, line by line, each from the bytes that the one before it left.
 ghost use Rattle.std.specs.Prelude.{◌≡◌};
 ghost use Rattle.rules.specs.Answers.{read_outcome};
+ghost use Rattle.rules.specs.StoredTable.{no_table};
 ghost use Rattle.rules.specs.Sheet.{field_end, read_field, read_line, lines_of, lines_answer, import_of};
-ghost use Rattle.sheets.specs.Found.{WentOn, Finds};
+ghost use Rattle.sheets.specs.Found.{WentOn, Finds, put_into};
 
 use rules::{ObjectRow, ROWS, Refusal, Refused, Table};
 
@@ -75,12 +76,14 @@ fn read_line(bytes: &[u8]) -> Option<(ObjectRow, &[u8])>
     Some((row, rest))
 }
 
-// The answer to the lines of a sheet: the first that is not of the form, or the answer to all rows. Rows beyond 64 are only counted. A loop
-// over what is left: where a line ends is known only once it is read.
-fn read_lines(bytes: &[u8]) -> Result<Table, Refused>
-    ensures { result ≡ read_outcome (lines_answer (lines_of bytes.now)) }
+// The answer to the lines of a sheet: the first that is not of the form, or the answer to all rows, which are put into the lent table. Rows
+// beyond 64 are only counted. A loop over what is left: where a line ends is known only once it is read. The table is lent and the call
+// stays a call, since an answer with a table in it that stands around loops is cleared before them and copied behind them.
+#[inline(never)]
+fn read_lines(bytes: &[u8], table: &mut Table) -> Result<(), Refused>
+    requires { table.old ≡ no_table }
+    ensures { put_into table.new result ≡ read_outcome (lines_answer (lines_of bytes.now)) }
 {
-    let mut rows = [ObjectRow::empty(); ROWS];
     let mut count = 0;
     let mut rest = bytes;
     while !rest.is_empty() {
@@ -88,12 +91,13 @@ fn read_lines(bytes: &[u8]) -> Result<Table, Refused>
             return Err(Refusal::LineForm.at(count));
         };
         if count < ROWS {
-            rows[count] = row;
+            table.rows[count] = row;
         }
         count += 1;
         rest = behind;
     }
-    rules::check_answer(Table { count, rows })
+    table.count = count;
+    rules::check_table(*table)
 }
 
 // A sheet to a table.
@@ -103,5 +107,7 @@ pub fn import(bytes: &[u8]) -> Result<Table, Refused>
     if MOST_BYTES < bytes.len() {
         return Err(Refusal::TooLong.at(0));
     }
-    read_lines(bytes)
+    let mut table = Table::empty();
+    read_lines(bytes, &mut table)?;
+    Ok(table)
 }

@@ -1,12 +1,14 @@
 -- `sheets::reading::read_lines` meets its contract: after each turn the lines before the rest are read. Assumes nothing.
 use Rattle.std.proofs.Common.{◌≡◌, ◌<◌, ◌∙◌, length, rules, tests, ap}
+use Rattle.rules.specs.declared.Table.{Table}
 use Rattle.rules.specs.Answers.{read_outcome}
-use Rattle.sheets.proofs.Walked.{walked_none, all_read, bad_line_law, line_shorter, walked_kept, walked_full}
+use Rattle.rules.specs.StoredTable.{table_verdict}
+use Rattle.sheets.proofs.Walked.{put_checked, walked_none, all_read, bad_line_law, line_shorter, walked_kept, walked_full}
 use Rattle.sheets.proofs.reading.read_lines.Goals as goal
 use Rattle.sheets.proofs.reading.read_lines.Goals.{then-count-lt-ROWS, else-count-lt-ROWS}
 
 pub loop-rest-init : goal.loop-rest-init
-loop-rest-init c = rw c.empty-rows.ensures (walked_none c.args.bytes.now)
+loop-rest-init c = rw c.requires (walked_none c.args.bytes.now)
 
 pub returns-in_default : goal.returns-in_default
 returns-in_default c =
@@ -21,11 +23,13 @@ loop-rest-preserved c =
     let w = c.loop-rest.invariant in
     let more : 0 < length c.loop-rest.rest.now = search (rules, tests) in
     elim c.if-count-lt-ROWS.branch [
-      | then-count-lt-ROWS t ↦ walked_kept w more c.in-Some.ensures t.if-count-lt-ROWS.true t.rows-is
-      | else-count-lt-ROWS t ↦ walked_full w more c.in-Some.ensures t.if-count-lt-ROWS.false t.rows-is
+      | then-count-lt-ROWS t ↦ walked_kept w more c.in-Some.ensures t.if-count-lt-ROWS.true (ap (λ (t : Table). t.rows) t.table-is)
+      | else-count-lt-ROWS t ↦ walked_full w more c.in-Some.ensures t.if-count-lt-ROWS.false (ap (λ (t : Table). t.rows) t.table-is)
     ]
 
 pub returns : goal.returns
 returns c =
-    let none : length c.loop-rest.rest.now ≡ 0 = search (rules, tests) in
-    c.check_answer.ensures ∙ ap read_outcome (all_read c.loop-rest.invariant none)
+    let l = c.loop-rest in
+    let none : length l.rest.now ≡ 0 = search (rules, tests) in
+    let table : Table = record { count = l.count; rows = l.table.rows } in
+    rw c.check_table.ensures (put_checked (table_verdict table) table ∙ ap read_outcome (all_read l.invariant none))

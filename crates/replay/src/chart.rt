@@ -1,8 +1,9 @@
 // The chart: a column for each of up to 100 slots, and for each object a line for its job and a line for its value.
-use super::turns::Turn;
+ghost use Rattle.std.specs.Prelude.{◌≤◌, ◌<◌, ◌+◌, IfSome};
+
+use super::turns::Turns;
 use printing::Line;
-use rules::Run;
-use std::alloc::{AllocError, Global};
+use rules::{ROWS, Run};
 
 // The widest chart has so many columns.
 const COLUMNS: usize = 100;
@@ -11,81 +12,100 @@ const COLUMNS: usize = 100;
 const MARGIN: usize = 7;
 
 // The signs of an object's job and of its value, column by column.
-#[derive(Drop)]
-struct Signs {
-    job: Vec<u8>,
-    value: Vec<u8>,
+#[derive(Clone, Copy)]
+pub(crate) struct Signs {
+    job: [u8; COLUMNS],
+    value: [u8; COLUMNS],
 }
 
-// What is drawn so far: the slots from `first` on, which of them were stolen, and the objects' signs.
+// The chart of a run of so many slots: `width` of them from `first` on, and which of them were stolen. The objects' signs are lent to it.
 #[derive(Drop)]
 pub(crate) struct Chart {
+    slots: usize,
     first: usize,
-    marks: Vec<u8>,
-    objects: Vec<Signs>,
+    width: usize,
+    marks: [u8; COLUMNS],
+    ghost within: { (first + width ≤ slots) × (width ≤ 100) },
 }
 
 // The first slot that is drawn: `from`, or where that is not within the run the one from which on its last 100 are drawn.
-fn first_drawn(slots: usize, from: Option<usize>) -> usize {
+fn first_drawn(slots: usize, from: Option<usize>) -> usize
+    ensures { result ≤ slots }
+{
     from.filter(|from| *from < slots)
         .unwrap_or(slots.saturating_sub(COLUMNS))
 }
 
+// How many slots are drawn, of those that are left.
+fn width_of(left: usize) -> usize
+    ensures { (result ≤ left) × (result ≤ 100) }
+{
+    left.min(COLUMNS)
+}
+
+impl Signs {
+    // Nothing is drawn yet.
+    pub(crate) const BLANK: Signs = Signs {
+        job: [b' '; COLUMNS],
+        value: [b' '; COLUMNS],
+    };
+}
+
 impl Chart {
     // The chart of a run of so many slots, with no slot yet.
-    pub(crate) fn new(
-        alloc: Global,
-        run: &Run,
-        slots: usize,
-        from: Option<usize>,
-    ) -> Result<Chart, AllocError> {
-        let mut objects = Vec::new(alloc);
-        for _ in run.used() {
-            objects.push(Signs {
-                job: Vec::new(alloc),
-                value: Vec::new(alloc),
-            })?;
+    pub(crate) fn new(slots: usize, from: Option<usize>) -> Chart {
+        let first = first_drawn(slots, from);
+        Chart {
+            slots,
+            first,
+            width: width_of(slots - first),
+            marks: [b' '; COLUMNS],
         }
-        Ok(Chart {
-            first: first_drawn(slots, from),
-            marks: Vec::new(alloc),
-            objects,
-        })
+    }
+
+    // The column of a slot, if the chart has one.
+    fn column(&self, slot: usize) -> Option<usize>
+        ensures { IfSome result (λ column. column < 100) }
+    {
+        let column = slot.checked_sub(self.first)?;
+        if column < self.width {
+            Some(column)
+        } else {
+            None
+        }
     }
 
     // Draws a slot, if it is one of the chart's.
-    pub(crate) fn draw(
-        &mut self,
-        turns: &[Turn],
-        slot: usize,
-        stolen: bool,
-    ) -> Result<(), AllocError> {
-        if slot < self.first || COLUMNS <= self.marks.len() {
-            return Ok(());
+    pub(crate) fn draw(&mut self, objects: &mut [Signs; ROWS], turns: Turns, stolen: bool) {
+        let Some(column) = self.column(turns.slot as usize) else {
+            return;
+        };
+        self.marks[column] = if stolen { b'x' } else { b'.' };
+        for (signs, turn) in objects.iter_mut().zip(turns) {
+            signs.job[column] = turn.job_sign();
+            signs.value[column] = turn.value_sign();
         }
-        self.marks.push(if stolen { b'x' } else { b'.' })?;
-        for (signs, turn) in self.objects.iter_mut().zip(turns) {
-            signs.job.push(turn.job_sign())?;
-            signs.value.push(turn.value_sign())?;
-        }
-        Ok(())
     }
 
-    pub(crate) fn print(&self, rt: &impl Print, run: &Run, slots: usize) -> std::io::Result<()> {
+    pub(crate) fn print(
+        &self,
+        rt: &impl Print,
+        run: &Run,
+        objects: &[Signs; ROWS],
+    ) -> std::io::Result<()> {
         print_legend(rt)?;
-        self.print_part(rt, slots)?;
+        self.print_part(rt)?;
         self.print_ruler(rt)?;
         self.print_marks(rt)?;
-        for (row, signs) in run.used().iter().zip(&self.objects) {
-            signs.print(rt, row.planned.id)?;
+        for (row, signs) in run.used().iter().zip(objects) {
+            signs.print(rt, row.planned.id, self.width)?;
         }
         Ok(())
     }
 
     // Which slots the chart shows, if not all.
-    fn print_part(&self, rt: &impl Print, slots: usize) -> std::io::Result<()> {
-        let width = self.marks.len();
-        let first = self.first;
+    fn print_part(&self, rt: &impl Print) -> std::io::Result<()> {
+        let (slots, first, width) = (self.slots, self.first, self.width);
         if width < slots {
             println!(rt;
                 "{width} of {slots} slots, from slot {first} on (--from SLOT shows others)"
@@ -98,7 +118,7 @@ impl Chart {
     fn print_ruler(&self, rt: &impl Print) -> std::io::Result<()> {
         let mut line = Line::new();
         line.text(b"  slot ");
-        for (column, slot) in (MARGIN..MARGIN + self.marks.len()).zip(self.first..) {
+        for (column, slot) in (MARGIN..MARGIN + self.width).zip(self.first..) {
             if slot % 10 == 0 {
                 line.blanks_to(column);
                 line.put(b'|');
@@ -112,22 +132,24 @@ impl Chart {
     fn print_marks(&self, rt: &impl Print) -> std::io::Result<()> {
         let mut line = Line::new();
         line.text(b"stolen ");
-        line.text(self.marks.as_slice());
+        line.text(&self.marks[..self.width]);
         line.end(rt)
     }
 }
 
 impl Signs {
     // The two lines of an object.
-    fn print(&self, rt: &impl Print, id: u16) -> std::io::Result<()> {
+    fn print(&self, rt: &impl Print, id: u16, width: usize) -> std::io::Result<()>
+        requires { width ≤ 100 }
+    {
         let mut upper = Line::new();
         upper.padded(u64::from(id), MARGIN - 1);
         upper.blanks_to(MARGIN);
-        upper.text(self.job.as_slice());
+        upper.text(&self.job[..width]);
         upper.end(rt)?;
         let mut lower = Line::new();
         lower.blanks_to(MARGIN);
-        lower.text(self.value.as_slice());
+        lower.text(&self.value[..width]);
         lower.end(rt)
     }
 }

@@ -1,15 +1,15 @@
 // The incidents of a run: which value went stale in which slot and for how long, and who had the core meanwhile.
-use super::owners::{Owner, Shares};
-use super::turns::Turn;
+use super::owners::{Kept, Shares};
+use super::turns::{Turn, Turns};
+use arrayvec::ArrayVec;
 use rules::Run;
-use std::alloc::{AllocError, Global};
 
 // So many incidents are told; those past them are only counted.
 const TOLD: usize = 20;
 
 // One incident: the object's id, the slot of the release that should have renewed the value, the slot that left it stale, and the one that
 // renewed it, if any did.
-#[derive(Clone, Copy, Debug, PartialEq, Eq)]
+#[derive(Clone, Copy, Debug, PartialEq, Eq, Default)]
 pub(crate) struct Incident {
     pub id: u16,
     pub release: u32,
@@ -21,41 +21,37 @@ pub(crate) struct Incident {
 #[derive(Drop)]
 pub(crate) struct Incidents {
     pub count: usize,
-    pub first: Vec<Incident>,
+    pub first: ArrayVec<Incident, TOLD>,
 }
 
 impl Incidents {
-    pub(crate) fn new(alloc: Global) -> Incidents {
+    pub(crate) fn new() -> Incidents {
         Incidents {
             count: 0,
-            first: Vec::new(alloc),
+            first: ArrayVec::new(),
         }
     }
 
     // One slot more.
-    pub(crate) fn follow(&mut self, turns: &[Turn]) -> Result<(), AllocError> {
+    pub(crate) fn follow(&mut self, turns: Turns) {
         for turn in turns {
             if turn.lapsed() {
-                self.open(turn)?;
+                self.open(&turn);
             } else if turn.recovered() {
-                self.close(turn);
+                self.close(&turn);
             }
         }
-        Ok(())
     }
 
-    // One incident more.
-    fn open(&mut self, turn: &Turn) -> Result<(), AllocError> {
-        if self.first.len() < TOLD {
-            self.first.push(Incident {
-                id: turn.before.planned.id,
-                release: turn.last_release(),
-                slot: turn.slot,
-                end: None,
-            })?;
-        }
+    // One incident more. Where there is no place for it, it is only counted.
+    fn open(&mut self, turn: &Turn) {
+        let _ = self.first.try_push(Incident {
+            id: turn.before.planned.id,
+            release: turn.last_release(),
+            slot: turn.slot,
+            end: None,
+        });
         self.count = self.count.wrapping_add(1);
-        Ok(())
     }
 
     // The open incident of the object ends, if it is told.
@@ -68,12 +64,7 @@ impl Incidents {
     }
 
     // The incidents that are told; `owners` had the slots of the run.
-    pub(crate) fn print(
-        &self,
-        rt: &impl Print,
-        run: &Run,
-        owners: &[Owner],
-    ) -> std::io::Result<()> {
+    pub(crate) fn print(&self, rt: &impl Print, run: &Run, owners: &[Kept]) -> std::io::Result<()> {
         if self.count == 0 {
             return Ok(());
         }
@@ -92,7 +83,7 @@ impl Incidents {
 
 impl Incident {
     // An incident that is open at the end of the run lasts to it.
-    fn print(&self, rt: &impl Print, run: &Run, owners: &[Owner]) -> std::io::Result<()> {
+    fn print(&self, rt: &impl Print, run: &Run, owners: &[Kept]) -> std::io::Result<()> {
         let end = self.end.unwrap_or(run.clock);
         let (id, release, slot) = (self.id, self.release, self.slot);
         let long = end.wrapping_sub(slot);

@@ -1,5 +1,5 @@
 // Who had the core, slot by slot, and how many slots of an incident went to each.
-use super::turns::Turn;
+use super::turns::Turns;
 use rules::ROWS;
 
 // Who had a slot. Objects go by their places in priority order.
@@ -14,7 +14,7 @@ pub(crate) enum Owner {
 
 impl Owner {
     // Who had the slot that did this to the objects.
-    pub(crate) fn of(turns: &[Turn], stolen: bool) -> Owner {
+    pub(crate) fn of(turns: Turns, stolen: bool) -> Owner {
         for (place, turn) in (0..ROWS as u8).zip(turns) {
             if turn.ran() {
                 return if turn.in_hold() {
@@ -36,9 +36,43 @@ impl Owner {
     }
 }
 
+// Who had a slot, as a run keeps it of each of up to 1,000,000 slots: in one byte.
+#[derive(Clone, Copy, Debug, PartialEq, Eq)]
+pub(crate) struct Kept(u8);
+
+// The bytes below these are the places of objects, those above are the places of objects in their holds, from HELD on.
+const NOBODY: u8 = ROWS as u8;
+
+const STOLEN: u8 = NOBODY + 1;
+
+const HELD: u8 = NOBODY + 2;
+
+impl From<Owner> for Kept {
+    fn from(owner: Owner) -> Kept {
+        Kept(match owner {
+            Owner::Nobody => NOBODY,
+            Owner::Stolen => STOLEN,
+            Owner::Object(place) => place,
+            Owner::Held(place) => HELD.wrapping_add(place),
+        })
+    }
+}
+
+impl From<Kept> for Owner {
+    fn from(kept: Kept) -> Owner {
+        match kept.0 {
+            NOBODY => Owner::Nobody,
+            STOLEN => Owner::Stolen,
+            place if place < NOBODY => Owner::Object(place),
+            held => Owner::Held(held.wrapping_sub(HELD)),
+        }
+    }
+}
+
 // How many of these slots somebody had.
-pub(crate) fn count_of(owners: &[Owner], owner: Owner) -> usize {
-    owners.iter().filter(|other| **other == owner).count()
+pub(crate) fn count_of(owners: &[Kept], owner: Owner) -> usize {
+    let kept = Kept::from(owner);
+    owners.iter().filter(|other| **other == kept).count()
 }
 
 // How many slots an object had, and how many of these in its hold.
@@ -58,14 +92,14 @@ pub(crate) struct Shares {
 }
 
 impl Shares {
-    pub(crate) fn of(owners: &[Owner]) -> Shares {
+    pub(crate) fn of(owners: &[Kept]) -> Shares {
         let mut shares = Shares {
             nobody: 0,
             stolen: 0,
             objects: [Share::default(); ROWS],
         };
         for owner in owners {
-            shares.count(*owner);
+            shares.count(Owner::from(*owner));
         }
         shares
     }

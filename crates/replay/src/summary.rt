@@ -1,9 +1,9 @@
 // The lines above and below the chart: what was run, and what became of each object.
-use super::owners::Owner;
+use super::owners::{Kept, Owner};
 use super::story::Story;
 use super::tallies::Tally;
 use super::{owners, tallies};
-use rules::{Form, RunRow};
+use rules::{Form, Run, RunRow};
 use std::fmt;
 
 // Where the first releases come from.
@@ -38,10 +38,15 @@ impl fmt::Display for Source {
 }
 
 // "objects N, slots S, stolen T", and the source of the first releases.
-pub(crate) fn print_header(rt: &impl Print, story: &Story, source: Source) -> std::io::Result<()> {
-    let objects = story.run.used().len();
-    let slots = story.owners.len();
-    let stolen = owners::count_of(&story.owners, Owner::Stolen);
+pub(crate) fn print_header(
+    rt: &impl Print,
+    run: &Run,
+    owners: &[Kept],
+    source: Source,
+) -> std::io::Result<()> {
+    let objects = run.used().len();
+    let slots = owners.len();
+    let stolen = owners::count_of(owners, Owner::Stolen);
     println!(rt; "objects {objects}, slots {slots}, stolen {stolen}")?;
     println!(rt; "{source}")
 }
@@ -95,7 +100,7 @@ fn print_lacking(rt: &impl Print, story: &Story, last: u32) -> std::io::Result<(
 }
 
 // The last line: whether any value was ever stale, and from when on all were current.
-pub(crate) fn print_end(rt: &impl Print, story: &Story) -> std::io::Result<()> {
+pub(crate) fn print_end(rt: &impl Print, story: &Story, slots: usize) -> std::io::Result<()> {
     let incidents = story.incidents.count;
     if incidents == 0 {
         print!(rt; "No value was ever stale; ")?;
@@ -104,7 +109,7 @@ pub(crate) fn print_end(rt: &impl Print, story: &Story) -> std::io::Result<()> {
         print!(rt; "Some values were stale (times: {incidents}, slots in all: {stale}); ")?;
     }
     let last = tallies::last_lacking(&story.tallies);
-    if (last as usize) < story.owners.len() {
+    if (last as usize) < slots {
         println!(rt; "every value was current from slot {last} on.")
     } else {
         print_lacking(rt, story, last)

@@ -1,6 +1,6 @@
 // What is counted of each object over a run.
 use super::owners::Owner;
-use super::turns::Turn;
+use super::turns::{Turn, Turns};
 use rules::{ROWS, Stored};
 
 // What is counted of an object: the sample instant of its stored value and the longest age seen, where it ever had a value, how many
@@ -47,9 +47,9 @@ impl Tally {
 }
 
 // One slot more on the tallies of the objects; `owner` is who had it.
-pub(crate) fn count(tallies: &mut [Tally], turns: &[Turn], owner: Owner) {
+pub(crate) fn count(tallies: &mut [Tally], turns: Turns, owner: Owner) {
     for (place, (tally, turn)) in (0..ROWS as u8).zip(tallies.iter_mut().zip(turns)) {
-        tally.count(turn, owner.is_held_behind(place));
+        tally.count(&turn, owner.is_held_behind(place));
     }
 }
 

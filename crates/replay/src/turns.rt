@@ -1,6 +1,8 @@
 // What one slot did to each object, told from its row before the slot and after it.
-use rules::{RunRow, Stored};
-use std::alloc::{AllocError, Global};
+ghost use Rattle.std.specs.Prelude.{length};
+ghost use Rattle.std.specs.Iterator.{at_most};
+
+use rules::{Run, RunRow, Stored};
 
 // What a slot did to one object.
 #[derive(Clone, Copy)]
@@ -17,22 +19,40 @@ fn is_stale(row: &RunRow) -> bool {
     }
 }
 
-// What a slot did to the objects whose rows these were before it and are after it.
-pub(crate) fn between<'a>(
-    alloc: Global,
-    slot: u32,
+// What a slot did to the objects, one after the other: the rows that are left of the run before it and of the run after it.
+#[derive(Clone, Copy)]
+pub(crate) struct Turns<'a> {
+    pub slot: u32,
     before: &'a [RunRow],
     after: &'a [RunRow],
-) -> Result<Vec<Turn<'a>>, AllocError> {
-    before
-        .iter()
-        .zip(after)
-        .map(|(before, after)| Turn {
-            slot,
+}
+
+impl<'a> Turns<'a> {
+    pub(crate) fn between(before: &'a Run, after: &'a Run) -> Turns<'a> {
+        Turns {
+            slot: before.clock,
+            before: before.used(),
+            after: after.used(),
+        }
+    }
+}
+
+impl<'a> Iterator for Turns<'a> {
+    type Item = Turn<'a>;
+
+    ghost remaining = { λ turns. at_most (length turns.before.now) };
+
+    fn next(&mut self) -> Option<Turn<'a>> {
+        let (before, before_others) = self.before.split_first()?;
+        let (after, after_others) = self.after.split_first()?;
+        self.before = before_others;
+        self.after = after_others;
+        Some(Turn {
+            slot: self.slot,
             before,
             after,
         })
-        .collect(alloc)
+    }
 }
 
 impl Turn<'_> {

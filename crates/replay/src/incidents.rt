@@ -98,7 +98,8 @@ impl Incident {
 
 // Who had the core, the stolen slots first and those of nobody last.
 fn print_shares(rt: &impl Print, run: &Run, shares: &Shares) -> std::io::Result<()> {
-    print!(rt; "; stolen {}", shares.stolen)?;
+    print!(rt; "; ")?;
+    print!(rt; "stolen {}", shares.stolen)?;
     for (row, share) in run.used().iter().zip(&shares.objects) {
         if share.slots != 0 {
             print!(rt; ", object {}: {}", row.planned.id, share.slots)?;

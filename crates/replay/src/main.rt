@@ -12,7 +12,7 @@ mod words;
 
 use chart::Signs;
 use owners::{Kept, Owner};
-use printing::{Ending, Input};
+use printing::{Ending, Input, Streams};
 use rules::{ROWS, Refused, Run, StoredTable, Table};
 use story::Story;
 use summary::Source;
@@ -103,19 +103,19 @@ fn start<R: Print + Eprint>(rt: &R, bytes: &[u8], stored: StoredTable, words: &W
 }
 
 // The answer to the words of the command and to the bytes of a stored table on standard input.
-fn answer(rt: HostRuntime, words: &Words) -> Ending {
+fn answer(words: &Words) -> Ending {
     let input = Input::read();
     match tables::read(input.bytes()) {
-        Ok(stored) => start(&rt, input.bytes(), stored, words),
-        Err(refused) => printing::refuse_table(&rt, input.bytes(), refused),
+        Ok(stored) => start(&Streams, input.bytes(), stored, words),
+        Err(refused) => printing::refuse_table(&Streams, input.bytes(), refused),
     }
 }
 
 fn main(rt: HostRuntime) {
     let how = match words::read(rt) {
-        Ok(words) => answer(rt, &words),
+        Ok(words) => answer(&words),
         Err(wrong) => {
-            printing::ignored(eprintln!(rt; "{wrong}"));
+            printing::ignored(eprintln!(Streams; "{wrong}"));
             Ending::WrongWords
         }
     };

@@ -3,6 +3,7 @@ use super::owners::{Kept, Owner};
 use super::story::Story;
 use super::tallies::Tally;
 use super::{owners, tallies};
+use printing::Line;
 use rules::{Form, Run, RunRow};
 use std::fmt;
 
@@ -51,31 +52,37 @@ pub(crate) fn print_header(
     println!(rt; "{source}")
 }
 
-// A line of the table. An object that never had a value has no age.
+// A line of the table, written as a whole. An object that never had a value has no age.
 fn print_row(rt: &impl Print, row: &RunRow, tally: &Tally) -> std::io::Result<()> {
     let planned = row.planned;
-    print!(rt;
-        "{:>6}{:>9}{:>9}",
-        planned.id, planned.cost, planned.validity
-    )?;
-    print!(rt;
-        "{:>9}{:>9}{:>9}",
-        planned.hold, planned.deadline, planned.period
-    )?;
-    match tally.longest {
-        Some(age) => print!(rt; "{age:>9}")?,
-        None => print!(rt; "{:>9}", '-')?,
+    let mut line = Line::new();
+    line.padded(u64::from(planned.id), 6);
+    for number in [
+        planned.cost,
+        planned.validity,
+        planned.hold,
+        planned.deadline,
+        planned.period,
+    ] {
+        line.padded(u64::from(number), 9);
     }
-    println!(rt;
-        "{:>9}{:>9}{:>9}{:>9}",
-        tally.none, tally.stale, row.skips, tally.held_up
-    )
+    match tally.longest {
+        Some(age) => line.padded(u64::from(age), 9),
+        None => {
+            line.blanks(8);
+            line.put(b'-');
+        }
+    }
+    for number in [tally.none, tally.stale, row.skips, tally.held_up] {
+        line.padded(u64::from(number), 9);
+    }
+    line.end(rt)
 }
 
 // The table: the heading stands over columns of 6 and then 9 signs.
 pub(crate) fn print(rt: &impl Print, story: &Story) -> std::io::Result<()> {
-    println!(rt;
-        "    id     cost validity     hold deadline   period   oldest     none    stale  skipped  held up"
+    print!(rt;
+        "    id     cost validity     hold deadline   period   oldest     none    stale  skipped  held up\n"
     )?;
     for (row, tally) in story.run.used().iter().zip(&story.tallies) {
         print_row(rt, row, tally)?;
